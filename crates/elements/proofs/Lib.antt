@@ -1,0 +1,4 @@
+pub mod Find
+pub mod Codes
+pub mod Table
+pub mod Rules

@@ -1,0 +1,5 @@
+mod Tests
+pub mod Judged
+pub mod Walks
+pub mod Lookups
+pub mod First

@@ -1,0 +1,87 @@
+// The judgement of one element, and the walk over the counted ones to the first bad one.
+use super::Verdict;
+use super::Walked;
+use answer::Bad;
+use answer::Place;
+use elements::Context;
+use elements::good_value;
+use elements::kind_of;
+use elements::permitted;
+use elements::right_size;
+use octets::get16;
+use octets::get32;
+ghost use mathlib.Core.Path.{_≡_};
+ghost use Prim.Native.Nat.{_+_, _≤_, _<_};
+ghost use lib.ListN.{length};
+ghost use Rattle.gsb.specs.declared.Walked.the-variants.{Done};
+ghost use Rattle.gsb.specs.Walk.{badLength, judged, after, firstBad};
+
+pub fn bad_length(b: &[u8]) -> bool
+    ensures { λ r. ⌜ r ≡ badLength (now (b .entry)) ⌝ }
+{
+    if b.len() < 4 {
+        return true;
+    }
+    65536 < b.len()
+}
+
+// An empty NOP is told by one read: long runs of them are common padding.
+pub fn judge(b: &[u8], at: usize, k: Context) -> Verdict
+    requires { ⌜ at ≤ length (now b) ⌝ }
+    ensures { λ r. ⌜ r ≡ judged k (now (b .entry)) at ⌝ }
+{
+    if b.len() - at < 4 {
+        return Verdict::Faulty(Bad::Size);
+    }
+    if get32(b, at) == 0 {
+        return Verdict::Good(at + 4);
+    }
+    let id = get16(b, at);
+    let size = get16(b, at + 2) as usize;
+    let kind = kind_of(id);
+    if !permitted(k, id, kind) {
+        return Verdict::Faulty(Bad::Id);
+    }
+    if !right_size(kind, size) {
+        return Verdict::Faulty(Bad::Size);
+    }
+    if b.len() - at - 4 < size {
+        return Verdict::Faulty(Bad::Size);
+    }
+    if !good_value(k, id, size, b, at + 4) {
+        return Verdict::Faulty(Bad::Value);
+    }
+    Verdict::Good(at + 4 + size)
+}
+
+// What a verdict that is not good makes of the walk.
+fn stop(verdict: Verdict, index: usize, offset: usize) -> Walked
+    ensures { λ r. ⌜ r ≡ after verdict index offset (λ next. Done) ⌝ }
+{
+    match verdict {
+        Verdict::Good(_) => Walked::Done,
+        Verdict::Faulty(bad) => Walked::Stopped(bad, Place { index, offset }),
+    }
+}
+
+// The count is never trusted: the walk leaves at the first header that does not fit.
+pub fn first_bad(b: &[u8], k: Context) -> Walked
+    requires { ⌜ 4 ≤ length (now b) ⌝ }
+    ensures { λ r. ⌜ r ≡ firstBad k (now (b .entry)) ⌝ }
+{
+    let count = get32(b, 0) as usize;
+    let mut at = 4;
+    let mut i = 0;
+    let end = 'walk: loop {
+        if count <= i {
+            break 'walk Walked::Done;
+        }
+        let verdict = judge(b, at, k);
+        let Verdict::Good(next) = verdict else {
+            break 'walk stop(verdict, i, at);
+        };
+        at = next;
+        i += 1;
+    };
+    end
+}
