@@ -1,0 +1,4 @@
+pub mod Digits
+pub mod Writes
+pub mod Listed
+pub mod Example
