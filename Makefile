@@ -1,7 +1,32 @@
-# make run: builds the listing and runs it on the example of the scope. make test: the whole gate.
-.PHONY: run test clean
+# make run: builds the library and compares it with the model. make test: the whole gate.
+CC = cc
+CFLAGS = -std=c11 -Wall -Wextra -Wpedantic -O2
+archive = target/staticlib/libadderknot.a
 
-run:
+.PHONY: all run listing test tools clean
+
+all: tools
+	rt staticlib adderknot
+
+# What a fresh machine may lack.
+tools:
+	@command -v $(CC) >/dev/null && command -v objdump >/dev/null || \
+	    (apt-get update -qq && apt-get install -y -qq gcc libc6-dev binutils)
+
+target/bench/compare: all bench/compare.c bench/model.c bench/model.h include/adderknot.h
+	mkdir -p target/bench
+	$(CC) $(CFLAGS) -Iinclude bench/compare.c bench/model.c $(archive) -o $@
+
+# The example of README.md, as it stands there.
+target/bench/example: all README.md include/adderknot.h
+	mkdir -p target/bench
+	awk '/^```c$$/ { on = 1; next } /^```$$/ { on = 0 } on' README.md > target/bench/example.c
+	$(CC) $(CFLAGS) -Iinclude target/bench/example.c $(archive) -o $@
+
+run: target/bench/compare
+	target/bench/compare
+
+listing:
 	rt check listing
 	tests/listing/raw tests/listing/example.hex | target/bin/listing
 

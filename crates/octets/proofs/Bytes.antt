@@ -205,6 +205,7 @@ put-more d to s from j h =
 
 -- a clearing loop's turn
 pub put-zeros : (d : List ℕ) (at j : ℕ) → set (put d at (zeros j)) (at + j) 0 ≡ put d at (zeros (j + 1))
+unfolding zeros
 put-zeros d at j =
     sym (put-one (put d at (zeros j)) (at + j) 0)
     ∙ ap (λ (k : ℕ). put (put d at (zeros j)) (at + k) (0 ∷ [])) (sym (length-replicate {A = ℕ} j 0))
@@ -241,6 +242,7 @@ module _ (d : List ℕ) (to : ℕ) (s : List ℕ) (from : ℕ) where
 
 module _ (d : List ℕ) (at : ℕ) where
   pub zeros-none : d ≡ put d at (zeros 0)
+  unfolding zeros
   zeros-none = sym (put-nil d at)
 
   pub zeros-more : (x : List ℕ) (j : ℕ) → x ≡ put d at (zeros j) → set x (at + j) 0 ≡ put d at (zeros (j + 1))
@@ -250,3 +252,12 @@ module _ (d : List ℕ) (at : ℕ) where
   zeros-all x j n p l h =
       let e : j ≡ n = omega arith in
       p ∙ ap (λ (k : ℕ). put d at (zeros k)) e
+
+-- ---- the whole list written anew
+pub length-zeros : (n : ℕ) → length (zeros n) ≡ n
+unfolding zeros
+length-zeros n = length-replicate n 0
+
+pub put-all : (s v : List ℕ) → length v ≡ length s → put s 0 v ≡ v
+put-all s v e =
+    sym (whole (put s 0 v)) ∙ ap (bytesAt (put s 0 v) 0) (length-put s 0 v ∙ sym e) ∙ read-back s 0 v (omega arith)

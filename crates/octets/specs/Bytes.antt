@@ -24,5 +24,5 @@ digits zero v = []
 digits (suc n) v = digits n (v / 256) ++ (v % 256 ∷ [])
 
 -- n bytes of zero
-abbrev pub zeros : ℕ → List ℕ
+unfoldable pub zeros : ℕ → List ℕ
 zeros n = replicate n 0

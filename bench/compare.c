@@ -1,0 +1,958 @@
+/*
+ * compare.c: makes long mixes of calls on the library and on the model, and compares every answer and every lent byte.
+ *
+ *     cc -std=c11 -O2 -I include bench/compare.c bench/model.c libadderknot.a -o compare
+ *     compare [--calls N] [--seed S | --seed fresh] [--quiet]
+ *
+ * A seed fixes the whole run; --calls only says where it ends. Lines 'passed compare NAME' or 'failed compare NAME' say
+ * what was established:
+ *
+ *     agreement   r3, r4, r5, the place of a value found, and all lent bytes are the same
+ *     unchanged   a refusal changed no lent byte, and no call changed what it may only read
+ *     guards      no byte beside lent memory changed
+ *     coverage    each call gave each answer that it can give, 2 with each unsupported bit as r4, and no other
+ *
+ * The run ends at the first difference. To add a call: its numbers' makers, a line MAKE, and a row of KINDS.
+ */
+#include "model.h"
+
+#include <inttypes.h>
+#include <stdbool.h>
+#include <stdio.h>
+#include <stdlib.h>
+#include <string.h>
+#include <time.h>
+
+#define COUNT(a) (sizeof(a) / sizeof((a)[0]))
+
+/* ---- Chance: splitmix64 ---- */
+
+/* A seed gives the same run everywhere. C leaves open which of two operands or arguments is computed first, so no
+   expression below asks for chance twice, unless it does not matter which came first. */
+
+static uint64_t chance_state;
+
+static uint64_t any64(void)
+{
+    uint64_t z = chance_state += UINT64_C(0x9E3779B97F4A7C15);
+    z = (z ^ z >> 30) * UINT64_C(0xBF58476D1CE4E5B9);
+    z = (z ^ z >> 27) * UINT64_C(0x94D049BB133111EB);
+    return z ^ z >> 31;
+}
+
+/* A number under n; n is far below 2^64, so the remainder's bias does not matter. */
+static unsigned below(unsigned n)
+{
+    return (unsigned)(any64() % n);
+}
+
+static bool percent(unsigned p)
+{
+    return below(100) < p;
+}
+
+static uint64_t any_bit(void)
+{
+    return ADK_BIT(below(64));
+}
+
+/* A number of any width up to 64 bits. */
+static uint64_t any_width(void)
+{
+    uint64_t n = any64();
+    return n >> below(64);
+}
+
+static void any_bytes(uint8_t *p, size_t n)
+{
+    for (; n >= 8; p += 8, n -= 8) {
+        uint64_t v = any64();
+        for (int i = 0; i < 8; i++)
+            p[i] = (uint8_t)(v >> 8 * i);
+    }
+    for (; n > 0; n--)
+        *p++ = (uint8_t)any64();
+}
+
+static void flip_bit(uint8_t *p, unsigned n)
+{
+    p += below(n);
+    *p ^= (uint8_t)(1u << below(8));
+}
+
+/* ---- Lent memory ---- */
+
+/* Each piece is there three times: lent to the library, lent to the model, and as it was before the call. Between two
+   calls the three are equal, with what lies beside them, so that BEFORE also tells the guard bytes. */
+enum side { LIBRARY, MODEL, BEFORE, SIDES };
+enum piece { STORE, BUFFER, PIECES };
+
+static const char *const PIECE_NAME[PIECES] = { "store", "buffer" };
+
+/* The store is also lent 65,536 bytes too long, which a length kept in 16 bits would not see. */
+enum { GUARD = 61, STORE_CAPACITY = ADK_STORE_SIZE + 65536, BUFFER_CAPACITY = ADK_BUFFER_MAX + 4096 };
+
+static const size_t CAPACITY[PIECES] = { STORE_CAPACITY, BUFFER_CAPACITY };
+
+static uint8_t *memory[SIDES][PIECES];
+
+static void make_memory(void)
+{
+    for (int p = 0; p < PIECES; p++) {
+        size_t all = GUARD + CAPACITY[p] + GUARD;
+        for (int s = 0; s < SIDES; s++) {
+            uint8_t *m = malloc(all);
+            if (m == NULL)
+                exit(2);
+            memory[s][p] = m + GUARD;
+        }
+        any_bytes(memory[BEFORE][p] - GUARD, all);
+        for (int s = 0; s < BEFORE; s++)
+            memcpy(memory[s][p] - GUARD, memory[BEFORE][p] - GUARD, all);
+    }
+}
+
+static void free_memory(void)
+{
+    for (int p = 0; p < PIECES; p++)
+        for (int s = 0; s < SIDES; s++)
+            free(memory[s][p] - GUARD);
+}
+
+/* Gives both sides the bytes that were written to BEFORE. */
+static void share(enum piece p, size_t at, size_t n)
+{
+    for (int s = 0; s < BEFORE; s++)
+        memcpy(memory[s][p] + at, memory[BEFORE][p] + at, n);
+}
+
+/* ---- Calls ---- */
+
+enum { NUMBERS = 3, MOODS = 3, ANSWERS = 16 };
+enum use { NOT_LENT, READ, WRITTEN };
+
+struct call {
+    const struct kind *kind;
+    size_t len[PIECES];
+    uint64_t n[NUMBERS];
+};
+
+typedef adk_found make_call(const struct call *c, uint8_t *const *m);
+
+struct kind {
+    const char *name;
+    const char *number[NUMBERS];
+    enum use use[PIECES];
+    unsigned weight[MOODS]; /* how often, in a mood that fills the store, mixes, or empties it */
+    unsigned answers;       /* the answers that it can give, as bits */
+    uint64_t supported;     /* the flag bits that it supports */
+    void (*choose)(struct call *c);
+    make_call *library, *model;
+};
+
+static adk_found plain(adk_answer a)
+{
+    return (adk_found){ a.r3, a.r4, a.r5, 0, 0 };
+}
+
+static adk_found as_is(adk_found f)
+{
+    return f;
+}
+
+/* One call on either side, from the same arguments. */
+#define MAKE(form, name, ...)                                                \
+    static adk_found library_##name(const struct call *c, uint8_t *const *m) \
+    {                                                                        \
+        return form(adk_##name(__VA_ARGS__));                                \
+    }                                                                        \
+    static adk_found model_##name(const struct call *c, uint8_t *const *m)   \
+    {                                                                        \
+        return form(mdl_##name(__VA_ARGS__));                                \
+    }
+
+MAKE(plain, fresh_store, m[STORE], c->len[STORE])
+MAKE(plain, get_capabilities, m[STORE], c->len[STORE], c->n[0])
+MAKE(plain, set_capabilities, m[STORE], c->len[STORE], c->n[0], c->n[1])
+MAKE(plain, create_guest, m[STORE], c->len[STORE], c->n[0], c->n[1])
+MAKE(plain, create_vcpu, m[STORE], c->len[STORE], c->n[0], c->n[1], c->n[2])
+MAKE(plain, delete_guest, m[STORE], c->len[STORE], c->n[0], c->n[1])
+MAKE(plain, guest_clock, m[STORE], c->len[STORE], c->n[0], c->n[1])
+MAKE(as_is, lookup, m[BUFFER], c->len[BUFFER], (uint16_t)c->n[0])
+
+/* ---- Numbers: mostly good ones, so that stores fill, and each edge ---- */
+
+static const uint64_t EDGES[] = {
+    0, 1, 2, 3, 4, 7, 8, 9, 10, 15, 16, 17, 63, 64, 127, 128, 255, 256, 2046, 2047, 2048, 2049, 4095, 4096, 32767,
+    32768, 65535, 65536, 0x7FFFFFFF, 0x80000000, 0xFFFFFFFF, 0x100000000, 0x100000001, 0x7FFFFFFFFFFFFFFF,
+    0x8000000000000000, 0x8000000000000001, 0xFFFFFFFFFFFFFFF8, 0xFFFFFFFFFFFFFFFE, 0xFFFFFFFFFFFFFFFF
+};
+
+static uint64_t any_number(void)
+{
+    if (percent(60))
+        return EDGES[below(COUNT(EDGES))];
+    return any_width();
+}
+
+/* The number with one bit more at or above this place: the same number where only the low bits are kept. */
+static uint64_t alias(uint64_t n, unsigned place)
+{
+    return n + (UINT64_C(1) << (place + below(64 - place)));
+}
+
+static unsigned load16(const uint8_t *p)
+{
+    return (unsigned)p[0] << 8 | p[1];
+}
+
+static void store16(uint8_t *p, unsigned v)
+{
+    p[0] = (uint8_t)(v >> 8);
+    p[1] = (uint8_t)v;
+}
+
+/* Positions in the store, for choosing numbers and doing damage. */
+enum { LIVE = 8, ZERO = 9, WORDS = 10, HEADER = 42, GUEST_SIZE = 52, TB_OFFSET = 4 };
+
+static unsigned slot_word(unsigned slot)
+{
+    return load16(memory[BEFORE][STORE] + WORDS + 2 * slot);
+}
+
+/* A used slot word, or 0 where chance finds none. */
+static unsigned used_word(void)
+{
+    unsigned first = below(ADK_SLOTS);
+    for (unsigned i = 0; i < ADK_SLOTS; i++) {
+        unsigned w = slot_word((first + i) % ADK_SLOTS);
+        if (w & 0x8000)
+            return w;
+    }
+    return 0;
+}
+
+static uint64_t live_guest(void)
+{
+    unsigned first = below(ADK_GUESTS);
+    for (unsigned i = 0; i < ADK_GUESTS; i++) {
+        unsigned g = (first + i) % ADK_GUESTS;
+        if (memory[BEFORE][STORE][LIVE] & 0x80 >> g)
+            return g + 1;
+    }
+    return 1 + first;
+}
+
+static uint64_t any_guest(void)
+{
+    switch (below(16)) {
+    case 0: return below(16);
+    case 1: return 1 + below(ADK_GUESTS);
+    case 2: return any_number();
+    case 3: return alias(live_guest(), 3);
+    default: return live_guest();
+    }
+}
+
+static uint64_t any_vcpu(void)
+{
+    switch (below(12)) {
+    case 0: return any_number();
+    case 1: return alias(below(2048), 11);
+    case 2: return ADK_VCPU_MAX + below(3) - 1;
+    case 3: return alias(used_word() & 2047, 11);
+    case 4:
+    case 5: return below(3);
+    default: return below(2048);
+    }
+}
+
+static uint64_t bad_flags(void)
+{
+    switch (below(5)) {
+    case 0: return any_bit() | any_bit();
+    case 1: return any64() & any64() & any64();
+    case 2: return any_width();
+    case 3: return percent(10) ? UINT64_MAX : any_bit();
+    default: return any_bit();
+    }
+}
+
+static uint64_t any_flags(uint64_t good)
+{
+    return percent(85) ? good : good | bad_flags();
+}
+
+static uint64_t any_bitmap(void)
+{
+    uint64_t offered = ADK_CAP_POWER9 | ADK_CAP_POWER10;
+    uint64_t good = any64() & offered;
+    switch (below(8)) {
+    case 0: return any_bit();
+    case 1: return good | any_bit();
+    case 2: return any_number();
+    case 3: return percent(50) ? ~offered : any64();
+    default: return good;
+    }
+}
+
+static uint64_t any_token(void)
+{
+    switch (below(12)) {
+    case 0: return ADK_TOKEN - 1;
+    case 1: return ADK_TOKEN ^ any_bit();
+    case 2: return any_number();
+    default: return ADK_TOKEN;
+    }
+}
+
+static const size_t WRONG_LENGTHS[] = {
+    0, 1, 2, 7, 8, 9, 10, 41, 42, 43, 457, 458, 459, ADK_STORE_SIZE / 2, ADK_STORE_SIZE - 1820, ADK_STORE_SIZE - 52,
+    ADK_STORE_SIZE - 2, ADK_STORE_SIZE - 1, ADK_STORE_SIZE + 1, ADK_STORE_SIZE + 2, ADK_STORE_SIZE + 1820, 32768, 65535,
+    65536, STORE_CAPACITY
+};
+
+static size_t wrong_length(void)
+{
+    return percent(80) ? WRONG_LENGTHS[below(COUNT(WRONG_LENGTHS))] : below(STORE_CAPACITY + 1);
+}
+
+static void lend_store(struct call *c)
+{
+    c->len[STORE] = percent(95) ? ADK_STORE_SIZE : wrong_length();
+}
+
+/* ---- What each call is given ---- */
+
+/* A fresh store ends a history, so it is mostly refused. */
+static void choose_fresh_store(struct call *c)
+{
+    c->len[STORE] = percent(10) ? ADK_STORE_SIZE : wrong_length();
+}
+
+static void choose_get_capabilities(struct call *c)
+{
+    lend_store(c);
+    c->n[0] = any_flags(0);
+}
+
+static void choose_set_capabilities(struct call *c)
+{
+    lend_store(c);
+    c->n[0] = any_flags(0);
+    c->n[1] = any_bitmap();
+}
+
+static void choose_create_guest(struct call *c)
+{
+    lend_store(c);
+    c->n[0] = any_flags(0);
+    c->n[1] = any_token();
+}
+
+static void choose_create_vcpu(struct call *c)
+{
+    unsigned w = percent(15) ? used_word() : 0;
+    lend_store(c);
+    c->n[0] = any_flags(0);
+    c->n[1] = w != 0 ? w >> 11 & 15 : any_guest();
+    c->n[2] = w != 0 ? w & 2047 : any_vcpu();
+}
+
+static void choose_delete_guest(struct call *c)
+{
+    lend_store(c);
+    c->n[0] = any_flags(percent(4) ? ADK_DELETE_ALL : 0);
+    c->n[1] = any_guest();
+}
+
+/* Where guest is a number of a guest, its clock is brought close to the wrap at 2^64. */
+static uint64_t any_timebase(uint64_t guest)
+{
+    if (guest < 1 || guest > ADK_GUESTS || percent(40))
+        return any_number();
+    const uint8_t *p = memory[BEFORE][STORE] + HEADER + GUEST_SIZE * (guest - 1) + TB_OFFSET;
+    uint64_t offset = 0;
+    for (int i = 0; i < 8; i++)
+        offset = offset << 8 | p[i];
+    return percent(50) ? 1 - offset - below(3) : offset;
+}
+
+static void choose_guest_clock(struct call *c)
+{
+    lend_store(c);
+    c->n[0] = any_guest();
+    c->n[1] = any_timebase(c->n[0]);
+}
+
+/* ---- Guest state buffers for the lookup ---- */
+
+/* First and last of each run of listed IDs, the NOP too. */
+static const unsigned LISTED[][2] = {
+    { 0x0000, 0x0006 }, { 0x0C00, 0x0C02 }, { 0x1000, 0x1053 }, { 0x2000, 0x200E }, { 0x3000, 0x303F },
+    { 0xF000, 0xF003 }
+};
+
+static unsigned any_id(void)
+{
+    const unsigned *run = LISTED[below(COUNT(LISTED))];
+    switch (below(8)) {
+    case 0: return 0;
+    case 1: return (run[0] - 1) & 0xFFFF;
+    case 2: return run[1] + 1;
+    case 3: return below(0x10000);
+    default: return run[0] + below(run[1] - run[0] + 1);
+    }
+}
+
+static unsigned any_size(void)
+{
+    static const unsigned usual[] = { 4, 8, 16, 24 };
+    switch (below(8)) {
+    case 0:
+    case 1: return 0;
+    case 2: return below(32);
+    case 3: return percent(90) ? below(256) : below(0x10000);
+    default: return usual[below(4)];
+    }
+}
+
+/* A buffer under construction in BEFORE; high is the end of what was written. Elements take their IDs from a few, so
+   that IDs repeat. */
+struct build {
+    uint8_t *b;
+    size_t len, high;
+    uint32_t count;
+    unsigned id[3];
+};
+
+static void put_count(struct build *g)
+{
+    store16(g->b, g->count >> 16);
+    store16(g->b + 2, g->count & 0xFFFF);
+}
+
+/* Adds an element if it fits; the value keeps old bytes past the first 32. */
+static void add_element(struct build *g, unsigned id, unsigned size)
+{
+    if (g->len + 4 + size > ADK_BUFFER_MAX)
+        return;
+    store16(g->b + g->len, id);
+    store16(g->b + g->len + 2, size);
+    any_bytes(g->b + g->len + 4, size < 32 ? size : 32);
+    g->len += 4 + size;
+    g->count++;
+}
+
+static void build_elements(struct build *g, unsigned n)
+{
+    g->len = 4;
+    for (unsigned i = 0; i < n; i++) {
+        unsigned id = g->id[below(COUNT(g->id))];
+        add_element(g, id, any_size());
+    }
+    put_count(g);
+}
+
+/* Exactly the greatest length, by a last element that fills it. */
+static void build_longest(struct build *g)
+{
+    build_elements(g, below(20));
+    size_t room = ADK_BUFFER_MAX - g->len;
+    if (room >= 4)
+        add_element(g, g->id[0], (unsigned)room - 4);
+    put_count(g);
+}
+
+/* The most elements that fit, or one or two more: the NOP without a value, 16,383 times. */
+static void build_most(struct build *g)
+{
+    memset(g->b, 0, ADK_BUFFER_MAX);
+    g->len = ADK_BUFFER_MAX;
+    g->count = 16382 + below(4);
+    put_count(g);
+}
+
+static void build_bytes(struct build *g, size_t len)
+{
+    g->len = len;
+    if (percent(50)) {
+        any_bytes(g->b, len);
+        return;
+    }
+    memset(g->b, 0, len);
+    if (len > 3)
+        g->b[3] = (uint8_t)below(4);
+}
+
+static void cut(struct build *g)
+{
+    size_t most = g->len < 12 || percent(50) ? g->len : 12;
+    g->len -= below((unsigned)most + 1);
+}
+
+static void lie(struct build *g)
+{
+    switch (below(4)) {
+    case 0: g->count = (uint32_t)any_number(); break;
+    case 1: g->count--; break;
+    case 2: g->count = UINT32_MAX - below(3); break;
+    default: g->count += 1 + below(2); break;
+    }
+    put_count(g);
+}
+
+static void spoil(struct build *g)
+{
+    switch (below(5)) {
+    case 0: lie(g); break;
+    case 1: flip_bit(g->b, (unsigned)g->len); break;
+    case 2: g->len += below(40); break;
+    default: cut(g); break;
+    }
+}
+
+static void build_buffer(struct build *g)
+{
+    unsigned style = below(100);
+    if (style < 60)
+        build_elements(g, below(10));
+    else if (style < 75)
+        build_elements(g, below(120));
+    else if (style < 78)
+        build_longest(g);
+    else if (style < 79)
+        build_most(g);
+    else if (style < 90)
+        build_bytes(g, below(9));
+    else if (style < 98)
+        build_bytes(g, below(100));
+    else
+        build_bytes(g, percent(70) ? ADK_BUFFER_MAX - 1 + below(4) : ADK_BUFFER_MAX + below(4097));
+    g->high = g->len;
+    if (style < 79 && percent(40))
+        spoil(g);
+    if (g->high < g->len)
+        g->high = g->len;
+}
+
+static void choose_lookup(struct call *c)
+{
+    struct build g = { memory[BEFORE][BUFFER], 0, 0, 0, { 0 } };
+    for (size_t i = 0; i < COUNT(g.id); i++)
+        g.id[i] = any_id();
+    build_buffer(&g);
+    share(BUFFER, 0, g.high);
+    c->len[BUFFER] = g.len;
+    c->n[0] = percent(75) ? g.id[below(COUNT(g.id))] : any_id();
+}
+
+/* ---- Damage to a store ---- */
+
+static unsigned word_of(uint64_t guest, unsigned vcpu)
+{
+    return 0x8000 | (unsigned)guest << 11 | vcpu;
+}
+
+static void put_word(uint8_t *h, unsigned slot, unsigned w)
+{
+    store16(h + WORDS + 2 * slot, w);
+}
+
+/* A word of this guest in any slot. */
+static unsigned put_guest(uint8_t *h, uint64_t guest)
+{
+    unsigned w = word_of(guest, below(2048));
+    put_word(h, below(ADK_SLOTS), w);
+    return w;
+}
+
+/* Two slots with one pair, or with pairs that differ in one bit of the vCPU id. */
+static void pair_twice(uint8_t *h)
+{
+    unsigned w = used_word();
+    if (w == 0)
+        w = put_guest(h, live_guest());
+    if (percent(40))
+        w ^= 1u << below(11);
+    put_word(h, below(ADK_SLOTS), w);
+}
+
+/* A word that is not used and not zero: made so, or by clearing the used bit. */
+static void word_unused(uint8_t *h)
+{
+    unsigned slot = below(ADK_SLOTS);
+    unsigned w = slot_word(slot) & 0x7FFF;
+    if (w == 0 || percent(50))
+        w = percent(50) ? 1u << below(15) : 1 + below(0x7FFF);
+    put_word(h, slot, w);
+}
+
+/* All guests live and all slots used: well formed, or with one pair twice. */
+static void full_house(uint8_t *h)
+{
+    unsigned first = below(2048);
+    h[LIVE] = 0xFF;
+    for (unsigned i = 0; i < ADK_SLOTS; i++)
+        put_word(h, i, word_of(1 + below(ADK_GUESTS), (first + i) % 2048));
+    if (percent(60)) {
+        unsigned w = load16(h + WORDS + 2 * below(ADK_SLOTS));
+        put_word(h, below(ADK_SLOTS), w);
+    }
+}
+
+static void capabilities_wrong(uint8_t *h)
+{
+    if (percent(20))
+        any_bytes(h, 8);
+    else
+        flip_bit(h, 8);
+}
+
+/* Some of these leave the store well formed, and then the call must go through. */
+static void damage_header(uint8_t *h)
+{
+    switch (below(12)) {
+    case 0: any_bytes(h, HEADER); break;
+    case 1: any_bytes(h + below(HEADER), 1); break;
+    case 2: flip_bit(h, HEADER); flip_bit(h, HEADER); break;
+    case 3: pair_twice(h); break;
+    case 4: put_guest(h, below(16)); break;
+    case 5: word_unused(h); break;
+    case 6: h[ZERO] = (uint8_t)(percent(50) ? 1u << below(8) : 1 + below(255)); break;
+    case 7: capabilities_wrong(h); break;
+    case 8: h[LIVE] = (uint8_t)(percent(50) ? below(256) : h[LIVE] & ~(1u << below(8))); break;
+    case 9: full_house(h); break;
+    default: flip_bit(h, HEADER); break;
+    }
+}
+
+/* A damaged header stays for a few calls and is then put back, so that the history goes on. */
+static uint8_t saved_header[HEADER];
+static unsigned damaged_for;
+
+static void damage_or_repair(void)
+{
+    uint8_t *h = memory[BEFORE][STORE];
+    if (damaged_for > 0) {
+        if (--damaged_for > 0)
+            return;
+        memcpy(h, saved_header, HEADER);
+    } else if (percent(12)) {
+        memcpy(saved_header, h, HEADER);
+        damage_header(h);
+        damaged_for = 1 + below(5);
+    } else {
+        return;
+    }
+    share(STORE, 0, HEADER);
+}
+
+/* Value bytes are free: they are made anything, so that what a call zeroes, keeps or adds shows. */
+static void stir_values(void)
+{
+    size_t at = HEADER, n = ADK_STORE_SIZE - HEADER;
+    uint8_t *s = memory[BEFORE][STORE];
+    if (percent(90)) {
+        at = percent(50) ? at + below((unsigned)n) : at + below(8 * GUEST_SIZE);
+        n = 1 + below(64);
+        if (n > ADK_STORE_SIZE - at)
+            n = ADK_STORE_SIZE - at;
+    }
+    any_bytes(s + at, n);
+    share(STORE, at, n);
+}
+
+static void set_tb_offset(void)
+{
+    size_t at = HEADER + GUEST_SIZE * below(ADK_GUESTS) + TB_OFFSET;
+    uint64_t offset = any_number();
+    for (int i = 0; i < 8; i++)
+        memory[BEFORE][STORE][at + i] = (uint8_t)(offset >> (56 - 8 * i));
+    share(STORE, at, 8);
+}
+
+/* ---- The table of calls ---- */
+
+#define A(n) (1u << (n))
+
+static const struct kind KINDS[] = {
+    { "fresh_store", { NULL }, { WRITTEN, NOT_LENT }, { 2, 2, 2 }, A(0) | A(1), 0, choose_fresh_store,
+      library_fresh_store, model_fresh_store },
+    { "get_capabilities", { "flags" }, { READ, NOT_LENT }, { 8, 8, 8 }, A(0) | A(1) | A(2), 0, choose_get_capabilities,
+      library_get_capabilities, model_get_capabilities },
+    { "set_capabilities", { "flags", "bitmap" }, { WRITTEN, NOT_LENT }, { 12, 12, 12 }, A(0) | A(1) | A(2) | A(3), 0,
+      choose_set_capabilities, library_set_capabilities, model_set_capabilities },
+    { "create_guest", { "flags", "token" }, { WRITTEN, NOT_LENT }, { 30, 20, 8 }, A(0) | A(1) | A(2) | A(3) | A(9), 0,
+      choose_create_guest, library_create_guest, model_create_guest },
+    { "create_vcpu", { "flags", "guest", "vcpu" }, { WRITTEN, NOT_LENT }, { 60, 40, 15 },
+      A(0) | A(1) | A(2) | A(3) | A(4) | A(10) | A(9), 0, choose_create_vcpu, library_create_vcpu, model_create_vcpu },
+    { "delete_guest", { "flags", "guest" }, { WRITTEN, NOT_LENT }, { 3, 15, 40 }, A(0) | A(1) | A(2) | A(3),
+      ADK_DELETE_ALL, choose_delete_guest, library_delete_guest, model_delete_guest },
+    { "guest_clock", { "guest", "timebase" }, { READ, NOT_LENT }, { 15, 15, 15 }, A(0) | A(1) | A(3), 0,
+      choose_guest_clock, library_guest_clock, model_guest_clock },
+    { "lookup", { "id" }, { NOT_LENT, READ }, { 50, 50, 50 }, A(0) | A(5) | A(6) | A(7), 0, choose_lookup,
+      library_lookup, model_lookup },
+};
+
+static const struct kind *any_kind(unsigned mood)
+{
+    unsigned all = 0, k = 0;
+    for (size_t i = 0; i < COUNT(KINDS); i++)
+        all += KINDS[i].weight[mood];
+    for (unsigned at = below(all); at >= KINDS[k].weight[mood]; k++)
+        at -= KINDS[k].weight[mood];
+    return &KINDS[k];
+}
+
+/* ---- The comparison ---- */
+
+struct run {
+    uint64_t seed, calls, number;
+    bool quiet;
+    uint64_t tally[COUNT(KINDS)][ANSWERS];
+    uint64_t bad_bits[COUNT(KINDS)]; /* the bits told as r4 of answer 2 */
+};
+
+/* The bytes of a piece that are compared: what was lent and, of a store lent too short, the rest. */
+static size_t extent(const struct call *c, enum piece p)
+{
+    return p == STORE && c->len[p] < ADK_STORE_SIZE ? ADK_STORE_SIZE : c->len[p];
+}
+
+static bool same_answer(const adk_found *a, const adk_found *b)
+{
+    return a->r3 == b->r3 && a->r4 == b->r4 && a->r5 == b->r5 && a->at == b->at && a->len == b->len;
+}
+
+static bool same_bytes(enum piece p, enum side a, enum side b, size_t n)
+{
+    return memcmp(memory[a][p], memory[b][p], n) == 0;
+}
+
+static bool guards_intact(enum piece p, enum side s, size_t n)
+{
+    return memcmp(memory[s][p] - GUARD, memory[BEFORE][p] - GUARD, GUARD) == 0 &&
+           memcmp(memory[s][p] + n, memory[BEFORE][p] + n, GUARD) == 0;
+}
+
+/* What the call broke in this piece, or NULL. Where it holds, BEFORE is brought up to date. */
+static const char *broken(const struct call *c, enum piece p, bool accepted)
+{
+    size_t n = extent(c, p);
+    if (!guards_intact(p, LIBRARY, n) || !guards_intact(p, MODEL, n))
+        return "guards";
+    if (!accepted || c->kind->use[p] == READ)
+        return same_bytes(p, LIBRARY, BEFORE, n) && same_bytes(p, MODEL, BEFORE, n) ? NULL : "unchanged";
+    if (!same_bytes(p, LIBRARY, MODEL, n))
+        return "agreement";
+    memcpy(memory[BEFORE][p], memory[MODEL][p], n);
+    return NULL;
+}
+
+static void print_hex(const char *what, const uint8_t *p, size_t n)
+{
+    printf("  %s before the call, first %zu bytes:", what, n);
+    for (size_t i = 0; i < n; i++)
+        printf("%s%02X", i % 32 == 0 ? "\n    " : " ", p[i]);
+    printf("\n");
+}
+
+static void print_call(const struct call *c)
+{
+    const char *comma = "";
+    printf("%s(", c->kind->name);
+    for (int p = 0; p < PIECES; p++)
+        if (c->kind->use[p] != NOT_LENT) {
+            printf("%s%s of %zu bytes", comma, PIECE_NAME[p], c->len[p]);
+            comma = ", ";
+        }
+    for (int i = 0; i < NUMBERS && c->kind->number[i] != NULL; i++)
+        printf("%s%s 0x%" PRIX64, comma, c->kind->number[i], c->n[i]);
+    printf(")\n");
+    for (int p = 0; p < PIECES; p++)
+        if (c->kind->use[p] != NOT_LENT)
+            print_hex(PIECE_NAME[p], memory[BEFORE][p], p == STORE ? HEADER : c->len[p]);
+}
+
+static void print_answer(const char *who, const adk_found *f)
+{
+    printf("  %s: r3 %" PRIu64 " r4 0x%" PRIX64 " r5 0x%" PRIX64 " at %" PRIu64 " len %" PRIu64 "\n", who, f->r3, f->r4,
+           f->r5, f->at, f->len);
+}
+
+/* The first byte at which the sides differ from each other or, after a refusal, from before; guards count as well. */
+static void print_first_byte(const struct call *c, bool refused)
+{
+    for (int p = 0; p < PIECES; p++) {
+        if (c->kind->use[p] == NOT_LENT)
+            continue;
+        bool fixed = refused || c->kind->use[p] == READ;
+        long n = (long)extent(c, p);
+        for (long i = -GUARD; i < n + GUARD; i++) {
+            uint8_t lib = memory[LIBRARY][p][i], mdl = memory[MODEL][p][i], was = memory[BEFORE][p][i];
+            if (lib == mdl && (lib == was || (!fixed && i >= 0 && i < n)))
+                continue;
+            printf("  first differing byte: %s[%ld] before 0x%02X library 0x%02X model 0x%02X\n", PIECE_NAME[p], i, was,
+                   lib, mdl);
+            return;
+        }
+    }
+    printf("  no byte differs\n");
+}
+
+static int report(const struct run *r, const char *name, const struct call *c, const adk_found *lib,
+                  const adk_found *mdl)
+{
+    printf("failed compare %s\n  call %" PRIu64 ": ", name, r->number);
+    print_call(c);
+    print_answer("library", lib);
+    print_answer("model  ", mdl);
+    print_first_byte(c, lib->r3 != 0);
+    printf("  to repeat: compare --seed 0x%" PRIX64 " --calls %" PRIu64 "\n", r->seed, r->number);
+    return 1;
+}
+
+/* One call on both sides; 0 if nothing differs. */
+static int compare_call(struct run *r, const struct call *c)
+{
+    adk_found lib = c->kind->library(c, memory[LIBRARY]);
+    adk_found mdl = c->kind->model(c, memory[MODEL]);
+    if (!same_answer(&lib, &mdl))
+        return report(r, "agreement", c, &lib, &mdl);
+    for (int p = 0; p < PIECES; p++) {
+        const char *name = c->kind->use[p] == NOT_LENT ? NULL : broken(c, p, lib.r3 == 0);
+        if (name != NULL)
+            return report(r, name, c, &lib, &mdl);
+    }
+    if (lib.r3 >= ANSWERS || !(c->kind->answers & A(lib.r3)))
+        return report(r, "coverage", c, &lib, &mdl);
+    r->tally[c->kind - KINDS][lib.r3]++;
+    if (lib.r3 == ADK_BAD_FLAG)
+        r->bad_bits[c->kind - KINDS] |= ADK_BIT(lib.r4 & 63);
+    return 0;
+}
+
+static int compare_calls(struct run *r)
+{
+    unsigned mood = 0;
+    memset(memory[BEFORE][STORE], 0, ADK_STORE_SIZE);
+    share(STORE, 0, ADK_STORE_SIZE);
+    for (r->number = 1; r->number <= r->calls; r->number++) {
+        if (r->number % 256 == 0)
+            mood = below(MOODS);
+        damage_or_repair();
+        if (percent(4))
+            stir_values();
+        if (percent(4))
+            set_tb_offset();
+        struct call c = { any_kind(mood), { 0 }, { 0 } };
+        c.kind->choose(&c);
+        if (compare_call(r, &c) != 0)
+            return 1;
+    }
+    return 0;
+}
+
+/* ---- The end of a run ---- */
+
+static int highest_answer(void)
+{
+    int highest = 0;
+    for (size_t k = 0; k < COUNT(KINDS); k++)
+        for (int a = 0; a < ANSWERS; a++)
+            if (KINDS[k].answers & A(a) && a > highest)
+                highest = a;
+    return highest;
+}
+
+static void print_tally(const struct run *r)
+{
+    int highest = highest_answer();
+    printf("%-17s", "answer");
+    for (int a = 0; a <= highest; a++)
+        printf("%9d", a);
+    printf("\n");
+    for (size_t k = 0; k < COUNT(KINDS); k++) {
+        printf("%-17s", KINDS[k].name);
+        for (int a = 0; a <= highest; a++)
+            if (KINDS[k].answers & A(a))
+                printf("%9" PRIu64, r->tally[k][a]);
+            else
+                printf("%9s", "-");
+        printf("\n");
+    }
+}
+
+/* Whether the call gave each answer that it can give; names those that are missing. */
+static bool covered(const struct run *r, size_t k)
+{
+    bool all = true;
+    for (int a = 0; a < ANSWERS; a++)
+        if (KINDS[k].answers & A(a) && r->tally[k][a] == 0) {
+            printf("  %s never gave %d\n", KINDS[k].name, a);
+            all = false;
+        }
+    uint64_t bits = ~KINDS[k].supported & ~r->bad_bits[k];
+    if (KINDS[k].answers & A(ADK_BAD_FLAG) && bits != 0) {
+        printf("  %s never gave 2 with r4 the number of a bit of 0x%016" PRIX64 "\n", KINDS[k].name, bits);
+        all = false;
+    }
+    return all;
+}
+
+static int finish(const struct run *r)
+{
+    if (!r->quiet)
+        print_tally(r);
+    printf("passed compare agreement\npassed compare unchanged\npassed compare guards\n");
+    bool all = true;
+    for (size_t k = 0; k < COUNT(KINDS); k++)
+        all = covered(r, k) && all;
+    printf("%s compare coverage\n", all ? "passed" : "failed");
+    return all ? 0 : 1;
+}
+
+static int usage(void)
+{
+    fprintf(stderr, "usage: compare [--calls N] [--seed S | --seed fresh] [--quiet]\n");
+    return 2;
+}
+
+static bool read_number(const char *text, uint64_t *n)
+{
+    char *end;
+    *n = strtoull(text, &end, 0);
+    return *text != '\0' && *text != '-' && *end == '\0';
+}
+
+static bool read_options(struct run *r, int argc, char **argv)
+{
+    for (int i = 1; i < argc; i++) {
+        bool more = i + 1 < argc;
+        if (strcmp(argv[i], "--quiet") == 0)
+            r->quiet = true;
+        else if (more && strcmp(argv[i], "--seed") == 0 && strcmp(argv[i + 1], "fresh") == 0)
+            r->seed = (uint64_t)time(NULL), i++;
+        else if (more && strcmp(argv[i], "--seed") == 0 && read_number(argv[i + 1], &r->seed))
+            i++;
+        else if (more && strcmp(argv[i], "--calls") == 0 && read_number(argv[i + 1], &r->calls))
+            i++;
+        else
+            return false;
+    }
+    return true;
+}
+
+int main(int argc, char **argv)
+{
+    static struct run r = { .seed = UINT64_C(0xADDE24207), .calls = 1000000 };
+    if (!read_options(&r, argc, argv))
+        return usage();
+    printf("compare: %" PRIu64 " calls, seed 0x%" PRIX64 "\n", r.calls, r.seed);
+    chance_state = r.seed;
+    make_memory();
+    int result = compare_calls(&r) != 0 ? 1 : finish(&r);
+    free_memory();
+    return result;
+}

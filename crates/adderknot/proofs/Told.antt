@@ -1,0 +1,24 @@
+-- What an entry tells is what its call left. Assumes nothing.
+use mathlib.Core.Path.{_≡_, ap, _∙_}
+use mathlib.Core.List.{List, []}
+use Prim.Native.Nat.{ℕ}
+use Rattle.answer.specs.declared.Answer.{Answer}
+use Rattle.answer.specs.declared.Call.{Call}
+use Rattle.answer.specs.declared.Call.the-variants.{Lookup}
+use Rattle.answer.specs.declared.Registers.{Registers}
+use Rattle.answer.specs.Answer.{told}
+use Rattle.l0.specs.Refusals.{Outcome}
+use Rattle.gsb.specs.declared.Found.{Found as Looked}
+use Rattle.adderknot.specs.declared.Found.{Found}
+use Rattle.adderknot.specs.Entries.{Left, tells, leaves, foundAt}
+
+module _ (c : Call) (r : Registers) (a : Answer) (s : List ℕ) (o : Outcome) (e : _≡_ {A = Outcome} (record { answer = a; store = s; buffer = [] }) o) (h : r ≡ told c (a .fault) (a .value)) where
+  pub told-numbers : r ≡ tells c o
+  told-numbers = h ∙ ap (tells c) e
+
+  pub told-all : _≡_ {A = Left} (record { registers = r; store = s }) (leaves c o)
+  told-all = ap (λ (x : Registers). record { registers = x; store = s }) h ∙ ap (leaves c) e
+
+pub told-found : (t : Registers) (f x : Looked) → f ≡ x → t ≡ told Lookup (f .answer .fault) (f .answer .value)
+    → _≡_ {A = Found} (record { r3 = t .r3; r4 = t .r4; r5 = t .r5; at = f .at; len = f .len }) (foundAt x)
+told-found t f x e h = ap (λ (y : Registers). record { r3 = y .r3; r4 = y .r4; r5 = y .r5; at = f .at; len = f .len }) h ∙ ap foundAt e

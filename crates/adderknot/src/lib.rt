@@ -1,0 +1,90 @@
+// The entries that the C bench calls: each call's answer as the three numbers of the paper, nothing else.
+// include/adderknot.h declares them.
+use answer::Call;
+use answer::Registers;
+use answer::registers_of;
+ghost use mathlib.Core.Path.{_≡_};
+ghost use Rattle.answer.specs.declared.Call.{Call};
+ghost use Rattle.answer.specs.Answer.{told};
+ghost use Rattle.store.specs.Layout.{small};
+ghost use Rattle.gsb.specs.Lookup.{lookedUp};
+ghost use Rattle.l0.specs.Calls.{freshStore, getCapabilities, setCapabilities, createGuest, createVcpu, deleteGuest, guestClock};
+ghost use Rattle.adderknot.specs.Entries.{Left, leaves, tells, foundAt};
+
+#[no_mangle]
+pub extern "C" fn adk_fresh_store(store: &mut [u8]) -> Registers
+    ensures { λ r. ⌜ _≡_ {A = Left} (record { registers = r; store = now (store .exit) }) (leaves Call.FreshStore (freshStore small (now (store .entry)))) ⌝ }
+{
+    registers_of(Call::FreshStore, l0::fresh_store(store))
+}
+
+#[no_mangle]
+pub extern "C" fn adk_get_capabilities(store: &[u8], flags: u64) -> Registers
+    ensures { λ r. ⌜ r ≡ tells Call.GetCapabilities (getCapabilities small (now (store .entry)) flags) ⌝ }
+{
+    registers_of(Call::GetCapabilities, l0::get_capabilities(store, flags))
+}
+
+#[no_mangle]
+pub extern "C" fn adk_set_capabilities(store: &mut [u8], flags: u64, bitmap: u64) -> Registers
+    ensures { λ r. ⌜ _≡_ {A = Left} (record { registers = r; store = now (store .exit) }) (leaves Call.SetCapabilities (setCapabilities small (now (store .entry)) flags bitmap)) ⌝ }
+{
+    registers_of(
+        Call::SetCapabilities,
+        l0::set_capabilities(store, flags, bitmap),
+    )
+}
+
+#[no_mangle]
+pub extern "C" fn adk_create_guest(store: &mut [u8], flags: u64, token: u64) -> Registers
+    ensures { λ r. ⌜ _≡_ {A = Left} (record { registers = r; store = now (store .exit) }) (leaves Call.CreateGuest (createGuest small (now (store .entry)) flags token)) ⌝ }
+{
+    registers_of(Call::CreateGuest, l0::create_guest(store, flags, token))
+}
+
+#[no_mangle]
+pub extern "C" fn adk_create_vcpu(store: &mut [u8], flags: u64, guest: u64, vcpu: u64) -> Registers
+    ensures { λ r. ⌜ _≡_ {A = Left} (record { registers = r; store = now (store .exit) }) (leaves Call.CreateVcpu (createVcpu small (now (store .entry)) flags guest vcpu)) ⌝ }
+{
+    registers_of(Call::CreateVcpu, l0::create_vcpu(store, flags, guest, vcpu))
+}
+
+#[no_mangle]
+pub extern "C" fn adk_delete_guest(store: &mut [u8], flags: u64, guest: u64) -> Registers
+    ensures { λ r. ⌜ _≡_ {A = Left} (record { registers = r; store = now (store .exit) }) (leaves Call.DeleteGuest (deleteGuest small (now (store .entry)) flags guest)) ⌝ }
+{
+    registers_of(Call::DeleteGuest, l0::delete_guest(store, flags, guest))
+}
+
+#[no_mangle]
+pub extern "C" fn adk_guest_clock(store: &[u8], guest: u64, timebase: u64) -> Registers
+    ensures { λ r. ⌜ r ≡ tells Call.GuestClock (guestClock small (now (store .entry)) guest timebase) ⌝ }
+{
+    registers_of(Call::GuestClock, l0::guest_clock(store, guest, timebase))
+}
+
+// Where the value part lies in the caller's buffer: an exported function can't return a reference.
+#[repr(C)]
+pub struct Found {
+    pub r3: u64,
+    pub r4: u64,
+    pub r5: u64,
+    pub at: u64,
+    pub len: u64,
+}
+
+#[no_mangle]
+pub extern "C" fn adk_lookup(buffer: &[u8], id: u16) -> Found
+    ensures { λ r. ⌜ r ≡ foundAt (lookedUp (now (buffer .entry)) id) ⌝ }
+{
+    let found = gsb::lookup(buffer, id);
+    let answer = found.answer;
+    let told = registers_of(Call::Lookup, answer);
+    Found {
+        r3: told.r3,
+        r4: told.r4,
+        r5: told.r5,
+        at: found.at as u64,
+        len: found.len as u64,
+    }
+}

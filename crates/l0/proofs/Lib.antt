@@ -1,0 +1,4 @@
+pub mod FirstTests
+pub mod Answers
+pub mod Kept
+pub mod Lowest

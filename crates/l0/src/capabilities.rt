@@ -1,0 +1,57 @@
+// A fresh store, and the capabilities that the L1 and this L0 agree on.
+use super::Admission;
+use super::early::admit;
+use super::early::other_bits;
+use answer::Answer;
+use answer::Fault;
+use answer::refusal;
+use answer::success;
+use octets::clear;
+use store::put_capabilities;
+use store::small_layout;
+ghost use mathlib.Core.Path.{_≡_};
+ghost use mathlib.Core.List.{[]};
+ghost use Rattle.store.specs.Layout.{small};
+ghost use Rattle.l0.specs.Refusals.{Outcome};
+ghost use Rattle.l0.specs.Calls.{freshStore, getCapabilities, setCapabilities};
+
+// Bits 1 and 2: POWER9, POWER10.
+const OFFERED: u64 = 0x6000_0000_0000_0000;
+
+pub fn fresh_store(store: &mut [u8]) -> Answer
+    ensures { λ r. ⌜ _≡_ {A = Outcome} (record { answer = r; store = now (store .exit); buffer = [] }) (freshStore small (now (store .entry))) ⌝ }
+{
+    let l = small_layout();
+    if store.len() != l.size {
+        return refusal(Fault::Store);
+    }
+    clear(store, 0, store.len());
+    success(0)
+}
+
+// H_GUEST_GET_CAPABILITIES.
+pub fn get_capabilities(store: &[u8], flags: u64) -> Answer
+    ensures { λ r. ⌜ _≡_ {A = Outcome} (record { answer = r; store = now (store .entry); buffer = [] }) (getCapabilities small (now (store .entry)) flags) ⌝ }
+{
+    let admission = admit(store, small_layout(), 0, flags);
+    match admission {
+        Admission::Refused(fault) => refusal(fault),
+        Admission::Admitted => success(OFFERED),
+    }
+}
+
+// H_GUEST_SET_CAPABILITIES.
+pub fn set_capabilities(store: &mut [u8], flags: u64, bitmap: u64) -> Answer
+    ensures { λ r. ⌜ _≡_ {A = Outcome} (record { answer = r; store = now (store .exit); buffer = [] }) (setCapabilities small (now (store .entry)) flags bitmap) ⌝ }
+{
+    let l = small_layout();
+    match admit(store, l, 0, flags) {
+        Admission::Refused(fault) => return refusal(fault),
+        Admission::Admitted => {}
+    }
+    if other_bits(OFFERED, bitmap) != 0 {
+        return refusal(Fault::Capability);
+    }
+    put_capabilities(store, l, bitmap);
+    success(0)
+}

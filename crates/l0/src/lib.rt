@@ -1,0 +1,20 @@
+// The L0: the calls on a lent store. Each tests in 01's order, then acts; a refusal changes nothing.
+mod capabilities;
+mod clock;
+mod early;
+mod guests;
+
+use answer::Fault;
+pub use capabilities::fresh_store;
+pub use capabilities::get_capabilities;
+pub use capabilities::set_capabilities;
+pub use clock::guest_clock;
+pub use guests::create_guest;
+pub use guests::create_vcpu;
+pub use guests::delete_guest;
+
+// Past the first tests of a call, or refused by one.
+pub enum Admission {
+    Admitted,
+    Refused(Fault),
+}

@@ -1,0 +1,9 @@
+pub mod Search
+pub mod Loops
+pub mod Readings
+pub mod Tests
+pub mod Writes
+pub mod Fields
+pub mod Small
+pub mod Frame
+pub mod Kept

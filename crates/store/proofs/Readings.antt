@@ -1,0 +1,101 @@
+-- What the code reads from the store's bytes is what the header says. Assumes nothing.
+use mathlib.Core.Path.{_≡_, refl, sym, ap, ap₂, _∙_}
+use mathlib.Core.Logic.{_≢_}
+use mathlib.Core.Bool.{Bool, true, false, not, _&&_}
+use mathlib.Core.List.{List}
+use Prim.Native.Nat.{ℕ, zero, suc, _+_, _-_, _*_, _/_, _%_, _^_, _≤_, _<_}
+use native.Mathlib.Omega.{arith}
+use native.Mathlib.Nat.{mul-le-mul-left, mul-suc, mod-eq-of-lt}
+use native.Mathlib.Decide.{ℕ-discrete}
+use lib.Dec.{eqb, leb}
+use lib.ListN.{length, getD}
+use lib.Pow.{split}
+use borrow.Author.Tests.{eq-eqb, ne-eqb, le-leb, lt-leb}
+use Rattle.octets.specs.Bytes.{bytesAt, be}
+use Rattle.octets.specs.Bits.{bit, bits}
+use Rattle.octets.proofs.Numbers.{be-part}
+use Rattle.octets.proofs.Bits.{bits-byte, bits-be, bit-front, bits-front}
+use Rattle.store.specs.declared.Layout.{Layout}
+use Rattle.store.specs.Layout.{Sound}
+use Rattle.store.specs.Header.{header, outside, offered, capabilitiesOf, live, wordAt, word, headGood}
+
+-- n fields of w bits: field i ends before the end
+pub step : (w i n : ℕ) → i < n → w * i + w ≤ w * n
+step w i n h = omega (arith, mul-le-mul-left w h, mul-suc w i)
+
+bit-of : (s : List ℕ) (j x : ℕ) → x ≡ getD s (j / 8) 0 → x / 2 ^ (7 - j % 8) % 2 ≡ bit s j
+unfolding bit
+bit-of s j x e = ap (λ (y : ℕ). y / 2 ^ (7 - j % 8) % 2) e
+
+module _ (l : Layout) (h : Sound l) (s : List ℕ) where
+  pub caps-read : (x : ℕ) → x ≡ be s 0 8 → x ≡ capabilitiesOf (header l s)
+  unfolding capabilitiesOf header
+  caps-read x e = e ∙ sym (be-part s 0 (l .«guests_at») 0 8 (omega (arith, h .head, h .words)))
+
+  pub word-read : (i x : ℕ) → i < l .slots → ((k : ℕ) → getD s k 0 < 256) → x ≡ be s (l .«words_at» + 2 * i) 2 → x ≡ word l (header l s) i
+  unfolding word header
+  word-read i x k b e =
+      let p : wordAt l i + l .width ≤ 8 * l .«guests_at» = omega (arith, step (l .width) i (l .slots) k, h .words) in
+      let a : 8 * l .«words_at» + 16 * i ≡ 8 * (l .«words_at» + 2 * i) = omega arith in
+      sym (bits-front s (l .«guests_at») (wordAt l i) (l .width) p
+      ∙ ap (λ (n : ℕ). bits s (8 * l .«words_at» + n * i) n) (h .two-bytes)
+      ∙ ap (λ (n : ℕ). bits s n 16) a ∙ bits-be s (l .«words_at» + 2 * i) 2 (λ j m. b (l .«words_at» + 2 * i + j)) ∙ sym e)
+
+  pub word-inside : (i : ℕ) → i < l .slots → l .«words_at» + 2 * i + 2 ≤ l .«guests_at»
+  word-inside i k =
+      let e : l .width * l .slots ≡ 16 * l .slots = ap (λ (n : ℕ). n * l .slots) (h .two-bytes) in
+      omega (arith, h .words)
+
+  -- ---- live
+  module _ (g : ℕ) where
+    pub live-none : g < 1 → false ≡ live l (header l s) g
+    unfolding live
+    live-none k = simp (lt-leb _ _ k)
+
+    pub live-over : 1 ≤ g → l .guests < g → false ≡ live l (header l s) g
+    unfolding live
+    live-over k m = simp (le-leb _ _ k, lt-leb _ _ m)
+
+    pub live-read : (x : ℕ) → 1 ≤ g → g ≤ l .guests → x ≡ getD s ((63 + g) / 8) 0 → eqb (x / 2 ^ (7 - (63 + g) % 8) % 2) 1 ≡ live l (header l s) g
+    unfolding live header
+    live-read x k m e =
+        let p : 63 + g < 8 * l .«guests_at» = omega (arith, h .head, h .words, h .some-zeros) in
+        simp (le-leb _ _ k, le-leb _ _ m) (ap (λ (y : ℕ). eqb y 1) (bit-of s (63 + g) x e ∙ sym (bit-front s (l .«guests_at») (63 + g) p)))
+
+    pub live-byte : g ≤ l .guests → (63 + g) / 8 < l .«guests_at»
+    live-byte m = omega (arith, h .head, h .words, h .some-zeros)
+
+  -- ---- the head
+  module _ (c : ℕ) (e : c ≡ be s 0 8) where
+    pub head-other : (outside offered c ≡ 0 → ⊥) → false ≡ headGood l (header l s)
+    unfolding headGood
+    head-other n =
+        let m : outside offered (capabilitiesOf (header l s)) ≡ 0 → ⊥ = λ z. n (ap (outside offered) (caps-read c e) ∙ z) in
+        simp (ne-eqb _ _ m)
+
+    pub head-zeros : (x : ℕ) → outside offered c ≡ 0 → x ≡ getD s ((64 + l .guests) / 8) 0 → x < 256 → eqb x (x / 2 ^ l .zeros * 2 ^ l .zeros % 2 ^ 64) ≡ headGood l (header l s)
+    unfolding headGood header
+    head-zeros x z q m =
+        let z′ : outside offered (capabilitiesOf (bytesAt s 0 (l .«guests_at»))) ≡ 0 = ap (outside offered) (sym (caps-read c e)) ∙ z in
+        let p = (64 + l .guests) / 8 in
+        let a : 64 + l .guests ≡ 8 * p + (8 - l .zeros) = omega (arith, h .whole-bytes, h .some-zeros, h .few-zeros) in
+        let b : 8 - (8 - l .zeros) - l .zeros ≡ 0 = omega (arith, h .few-zeros) in
+        let o : 64 + l .guests + l .zeros ≤ 8 * l .«guests_at» = omega (arith, h .head, h .words) in
+        let d : bits (bytesAt s 0 (l .«guests_at»)) (64 + l .guests) (l .zeros) ≡ x / 2 ^ 0 % 2 ^ l .zeros =
+        bits-front s (l .«guests_at») (64 + l .guests) (l .zeros) o ∙ ap (λ (n : ℕ). bits s n (l .zeros)) a ∙ bits-byte s p (8 - l .zeros) (l .zeros) (omega (arith, h .few-zeros))
+        ∙ ap₂ (λ (y n : ℕ). y / 2 ^ n % 2 ^ l .zeros) (sym q) b in
+        let f : x / 2 ^ 0 ≡ x = omega arith in
+        rest x (l .zeros) m ∙ sym (simp (eq-eqb _ _ z′) (ap (λ (y : ℕ). eqb y 0) (d ∙ ap (λ (y : ℕ). y % 2 ^ l .zeros) f)))
+      where
+        rest : (x n : ℕ) → x < 256 → eqb x (x / 2 ^ n * 2 ^ n % 2 ^ 64) ≡ eqb (x % 2 ^ n) 0
+        rest x n m =
+            let i : x / 2 ^ n * 2 ^ n + x % 2 ^ n ≡ x = split x n in
+            let j : x / 2 ^ n * 2 ^ n % 2 ^ 64 ≡ x / 2 ^ n * 2 ^ n = mod-eq-of-lt (omega arith) in
+            ap (λ (y : ℕ). eqb x y) j ∙ go i (ℕ-discrete (x % 2 ^ n) 0)
+          where
+            go : x / 2 ^ n * 2 ^ n + x % 2 ^ n ≡ x → Dec (x % 2 ^ n ≡ 0) → eqb x (x / 2 ^ n * 2 ^ n) ≡ eqb (x % 2 ^ n) 0
+            go i (yes u) = let v : x ≡ x / 2 ^ n * 2 ^ n = omega arith in eq-eqb _ _ v ∙ sym (eq-eqb _ _ u)
+            go i (no u) = let v : x ≢ x / 2 ^ n * 2 ^ n = omega arith in ne-eqb _ _ v ∙ sym (ne-eqb _ _ u)
+
+    pub zeros-byte : (64 + l .guests) / 8 < l .«guests_at»
+    zeros-byte = omega (arith, h .head, h .words, h .some-zeros)

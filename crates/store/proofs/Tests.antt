@@ -1,0 +1,83 @@
+-- The tests of the definitions, in the form of the code's needs. Assumes nothing.
+use mathlib.Core.Path.{_≡_, refl, sym, ap, _∙_}
+use mathlib.Core.Bool.{Bool, true, false, not, _&&_, cond}
+use mathlib.Core.List.{List}
+use Prim.Native.Nat.{ℕ, _+_, _-_, _*_, _/_, _≤_, _<_}
+use native.Mathlib.Omega.{arith}
+use lib.Dec.{eqb, leb, ltb}
+use lib.ListN.{length}
+use borrow.Author.Tests.{eq-eqb, ne-eqb, le-leb, lt-leb, lt-ltb, le-ltb, leb-true, eqb-true, not-true, not-false}
+use Rattle.store.specs.declared.Layout.{Layout}
+use Rattle.store.specs.Layout.{Sound}
+use Rattle.store.specs.Header.{header, live, word, wordOf, isUsed, guestOf, alone, slotGood, headGood, wordsGood, slotHolding, slotOf, freeSlot}
+use Rattle.store.specs.Store.{wellFormed}
+use Rattle.store.proofs.Search.{both}
+
+-- ---- a slot
+module _ (l : Layout) (s : List ℕ) (a w : ℕ) (e : w ≡ word l s a) where
+  abbrev body : ℕ → Bool
+  body w = cond (eqb w 0) true (isUsed l w && (live l s (guestOf l w) && alone l s w a))
+
+  slot-is : slotGood l s a ≡ body w
+  unfolding slotGood
+  slot-is = ap body (sym e)
+
+  pub slot-zero : w ≡ 0 → true ≡ slotGood l s a
+  slot-zero z = sym (slot-is ∙ simp (eq-eqb _ _ z))
+
+  pub slot-unused : (w ≡ 0 → ⊥) → w < l .ids * 2048 → false ≡ slotGood l s a
+  unfolding isUsed
+  slot-unused n h = sym (slot-is ∙ simp (ne-eqb _ _ n, lt-leb _ _ h))
+
+  module _ (n : w ≡ 0 → ⊥) (h : l .ids * 2048 ≤ w) (x : Bool) (f : x ≡ live l s (w / 2048 - l .ids)) where
+    pub slot-dead : not x ≡ true → false ≡ slotGood l s a
+    unfolding isUsed guestOf
+    slot-dead q = sym (slot-is ∙ simp (ne-eqb _ _ n, le-leb _ _ h, sym f ∙ not-true x q))
+
+    pub slot-alone : (y : Bool) → not x ≡ false → y ≡ alone l s w a → y ≡ slotGood l s a
+    unfolding isUsed guestOf
+    slot-alone y q r = r ∙ sym (slot-is ∙ simp (ne-eqb _ _ n, le-leb _ _ h, sym f ∙ not-false x q))
+
+-- ---- the slot of a vCPU
+module _ (l : Layout) (s : List ℕ) (g v : ℕ) (x : Bool) (e : x ≡ live l s g) where
+  pub of-dead : not x ≡ true → l .slots ≡ slotOf l s g v
+  unfolding slotOf
+  of-dead q = simp (sym e ∙ not-true x q)
+
+  pub of-high : not x ≡ false → 2048 ≤ v → l .slots ≡ slotOf l s g v
+  unfolding slotOf
+  of-high q h = simp (sym e ∙ not-false x q, le-ltb _ _ h)
+
+  pub of-found : (r : ℕ) → not x ≡ false → v < 2048 → r ≡ slotHolding l s ((l .ids + g) * 2048 + v) → r ≡ slotOf l s g v
+  unfolding slotOf wordOf
+  of-found r q h f = f ∙ sym (simp (sym e ∙ not-false x q, lt-ltb _ _ h))
+
+pub live-parts : (l : Layout) (s : List ℕ) (g : ℕ) → live l s g ≡ true → (1 ≤ g) × (g ≤ l .guests)
+unfolding live
+live-parts l s g h =
+    let p = both _ _ h in
+    let q = both _ _ (p .0) in
+    (leb-true _ _ (q .0), leb-true _ _ (q .1))
+
+-- a live guest's number is small enough for a slot word
+pub live-small : (l : Layout) (s : List ℕ) (g : ℕ) (x : Bool) → Sound l → x ≡ live l s g → not x ≡ false → g < l .ids
+live-small l s g x h e q = let p = live-parts l s g (sym e ∙ not-false x q) in omega (arith, p .1, h .nameable)
+
+pub free-is : (l : Layout) (s : List ℕ) (r : ℕ) → r ≡ slotHolding l s 0 → r ≡ freeSlot l s
+unfolding freeSlot
+free-is l s r e = e
+
+-- ---- the whole
+module _ (l : Layout) (s : List ℕ) where
+  pub wf-long : (length s ≡ l .size → ⊥) → false ≡ wellFormed l s
+  unfolding wellFormed
+  wf-long n = simp (ne-eqb _ _ n)
+
+  module _ (e : length s ≡ l .size) (x : Bool) (q : x ≡ headGood l (header l s)) where
+    pub wf-head : not x ≡ true → false ≡ wellFormed l s
+    unfolding wellFormed
+    wf-head f = simp (eq-eqb _ _ e, sym q ∙ not-true x f)
+
+    pub wf-words : (y : Bool) → not x ≡ false → y ≡ wordsGood l (header l s) → y ≡ wellFormed l s
+    unfolding wellFormed
+    wf-words y f r = r ∙ sym (simp (eq-eqb _ _ e, sym q ∙ not-false x f))

@@ -1,0 +1,46 @@
+-- Each return is a law of `slotGood`.
+use Rattle.store.proofs.Tests.{slot-zero, slot-unused, slot-dead, slot-alone}
+use borrow.Author.Needs.{needs}
+use Rattle.store.proofs.header.slot_good.Statement.{statement}
+use Rattle.store.proofs.header.slot_good.Tie as tie
+
+slot-word-requires : tie.Need-slot-word-requires
+slot-word-requires c κs = search needs
+
+returns : tie.Need-returns
+returns c = search (needs, slot-zero)
+
+mul-if2 : tie.Need-mul-if2
+mul-if2 c = search needs
+
+returns-2 : tie.Need-returns-2
+returns-2 c = search (needs, slot-unused)
+
+sub-is-live : tie.Need-sub-is-live
+sub-is-live c = search needs
+
+is-live-requires : tie.Need-is-live-requires
+is-live-requires c κs = search needs
+
+returns-3 : tie.Need-returns-3
+returns-3 c = search (needs, slot-dead)
+
+is-alone-requires : tie.Need-is-alone-requires
+is-alone-requires c κs = search needs
+
+returns-4 : tie.Need-returns-4
+returns-4 c = search (needs, slot-alone)
+
+pub slot-good-spec : {M : Type 1} → statement M
+slot-good-spec =
+    tie.close
+    (tie.spec
+    slot-word-requires
+    returns
+    mul-if2
+    returns-2
+    sub-is-live
+    is-live-requires
+    returns-3
+    is-alone-requires
+    returns-4)

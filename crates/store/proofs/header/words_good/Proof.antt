@@ -1,0 +1,52 @@
+-- The invariant is the test that is left: the laws `words-..` of Loops.
+use Rattle.store.specs.Search.{every}
+use Rattle.store.specs.Header.{header, slotGood, wordsGood}
+use Rattle.store.proofs.Loops.{words-start, words-bad, words-turn, words-end}
+use Prim.Native.Nat.{ℕ, _+_, _-_, _*_, _≤_, _<_, _^_, _/_, _%_}
+use lib.ListN.{length}
+use mathlib.Core.Path.{_≡_, refl, sym, ap, _∙_}
+use native.Mathlib.Omega.{arith}
+use borrow.Author.Needs.{needs}
+use Rattle.store.proofs.header.words_good.Statement.{statement}
+use Rattle.store.proofs.header.words_good.Tie as tie
+
+abbrev Inv-loop : tie.InvT-loop
+Inv-loop s l a₀ a = (a ≤ l .slots) × (wordsGood l (header l s) ≡ every (slotGood l (header l s)) (l .slots - a) a)
+
+abbrev μ-loop : tie.MeasureT-loop
+μ-loop s l a₀ a = l .slots - a
+
+loop-holds : tie.Need-loop-holds Inv-loop μ-loop
+loop-holds c = (search needs, words-start _ _)
+
+slot-good-requires : tie.Need-slot-good-requires Inv-loop μ-loop
+slot-good-requires c κs = search needs
+
+returns : tie.Need-returns Inv-loop μ-loop
+returns c = search (needs, words-bad)
+
+add-a : tie.Need-add-a Inv-loop μ-loop
+add-a c = search needs
+
+loop-less : tie.Need-loop-less Inv-loop μ-loop
+loop-less c = search needs
+
+loop-again : tie.Need-loop-again Inv-loop μ-loop
+loop-again c = (search needs, search (needs, words-turn))
+
+returns-2 : tie.Need-returns-2 Inv-loop μ-loop
+returns-2 c = search (needs, words-end)
+
+pub words-good-spec : {M : Type 1} → statement M
+words-good-spec =
+    tie.close
+    (tie.spec
+    Inv-loop
+    μ-loop
+    loop-holds
+    slot-good-requires
+    returns
+    add-a
+    loop-less
+    loop-again
+    returns-2)

@@ -1,0 +1,41 @@
+-- 01, "The store": where its parts lie. Definitions and laws take a layout; only this file and the code's `small_layout` name its numbers.
+use Prim.Native.Nat.{ℕ, _+_, _-_, _*_, _^_, _%_, _≤_, _<_}
+use mathlib.Core.Path.{_≡_}
+use Rattle.store.specs.declared.Layout.{Layout}
+
+-- "52 bytes per guest", "1,820 bytes per slot"
+abbrev pub guestBytes : ℕ
+guestBytes = 52
+
+abbrev pub slotBytes : ℕ
+slotBytes = 1820
+
+-- "29,578 bytes. Bytes 0-7 the agreed capabilities; byte 8 the live guests 1 to 8; byte 9 zero; from byte 10 sixteen slot words of
+-- 16 bits: used (1 bit), guest id (4), vCPU id (11). From 42, 52 bytes per guest. From 458, 1,820 bytes per slot."
+-- `ids` is how many guest ids a slot word can name.
+abbrev pub small : Layout
+small = record { guests = 8; zeros = 8; slots = 16; ids = 16; width = 16; «words_at» = 10; «guests_at» = 42; «slots_at» = 458; size = 29578 }
+
+-- where the values of guest g, counted from 1, and of slot j, counted from 0, start
+abbrev pub guestAt : Layout → ℕ → ℕ
+guestAt l g = l .«guests_at» + guestBytes * (g - 1)
+
+abbrev pub slotAt : Layout → ℕ → ℕ
+slotAt l j = l .«slots_at» + slotBytes * j
+
+-- what every law uses of a layout; each layout proves it once, by computing
+pub record Sound (l : Layout) : Type 0 where
+  pub few-slots : l .slots ≤ 64
+  pub some-zeros : 1 ≤ l .zeros
+  pub few-zeros : l .zeros ≤ 8
+  pub whole-bytes : (l .guests + l .zeros) % 8 ≡ 0
+  pub nameable : l .guests < l .ids
+  pub few-ids : l .ids ≤ 64
+  pub digits : 2 ^ l .width ≡ 4096 * l .ids
+  pub head : 64 + l .guests + l .zeros ≤ 8 * l .«words_at»
+  pub words : 8 * l .«words_at» + l .width * l .slots ≤ 8 * l .«guests_at»
+  pub guests-fit : l .«guests_at» + guestBytes * l .guests ≤ l .«slots_at»
+  pub whole : l .«slots_at» + slotBytes * l .slots ≡ l .size
+  pub small-size : l .size ≤ 1000000
+  -- only the reader and the writer of a slot word use this one
+  pub two-bytes : l .width ≡ 16

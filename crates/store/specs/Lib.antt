@@ -1,0 +1,4 @@
+pub mod Layout
+pub mod Search
+pub mod Header
+pub mod Store

@@ -1,0 +1,36 @@
+// The one layout, and where a guest's and a slot's values start.
+use super::Layout;
+ghost use mathlib.Core.Path.{_≡_};
+ghost use Prim.Native.Nat.{_+_, _≤_, _<_, _*_};
+ghost use Rattle.store.specs.Layout.{Sound, small, guestAt, slotAt, guestBytes, slotBytes};
+
+// 01's store of 29,578 bytes.
+pub fn small_layout() -> Layout
+    ensures { λ r. ⌜ r ≡ small ⌝ }
+{
+    Layout {
+        guests: 8,
+        zeros: 8,
+        slots: 16,
+        ids: 16,
+        width: 16,
+        words_at: 10,
+        guests_at: 42,
+        slots_at: 458,
+        size: 29578,
+    }
+}
+
+pub fn guest_at(l: Layout, g: usize) -> usize
+    requires { ⌜ Sound l × (1 ≤ g) × (g ≤ l .guests) ⌝ }
+    ensures { λ r. ⌜ (r ≡ guestAt l g) × (l .«guests_at» ≤ r) × (r + guestBytes ≤ l .«slots_at») ⌝ }
+{
+    l.guests_at + 52 * (g - 1)
+}
+
+pub fn slot_at(l: Layout, j: usize) -> usize
+    requires { ⌜ Sound l × (j < l .slots) ⌝ }
+    ensures { λ r. ⌜ (r ≡ slotAt l j) × (l .«slots_at» ≤ r) × (r + slotBytes ≤ l .size) ⌝ }
+{
+    l.slots_at + 1820 * j
+}
