@@ -82,10 +82,10 @@ pub judged-fits : (id size : ℕ) (kind : Kind) (q : Bool) → kind ≡ kindOf i
 judged-fits id size kind q t f g = ap (λ (x : Kind). sizeFits x size) (sym t) ∙ sym f ∙ not-false q g
 
 -- an empty NOP, told by its four bytes of header
-zero-parts : (m n : ℕ) → m * 256 ^ 2 + n ≡ 0 → (m ≡ 0) × (n ≡ 0)
-zero-parts m n e = (omega arith, omega arith)
+pub empty-parts : (b : List ℕ) (at w : ℕ) → w ≡ be b at 4 → w ≡ 0 → (idAt b at ≡ 0) × (sizeAt b at ≡ 0)
+empty-parts b at w e z = let p : idAt b at * 256 ^ 2 + sizeAt b at ≡ 0 = sym (be-add b at 2 2) ∙ sym e ∙ z in (omega arith, omega arith)
 
-nop : kindOf 0 ≡ Nop
+pub nop : kindOf 0 ≡ Nop
 unfolding kindOf
 nop = refl
 
@@ -96,7 +96,7 @@ nop-value k b at = or-true (not (isSetting (k .usage)))
 pub judged-empty : (k : Context) (b : List ℕ) (at w : ℕ) → 4 ≤ length b - at → w ≡ be b at 4 → w ≡ 0 → Good (at + 4) ≡ judged k b at
 unfolding permits sizeFits
 judged-empty k b at w room e z =
-    let p = zero-parts (idAt b at) (sizeAt b at) (sym (be-add b at 2 2) ∙ sym e ∙ z) in
+    let p = empty-parts b at w e z in
     let n : at + 4 ≡ at + 4 + 0 = omega arith in
     ap Good n ∙ judged-good k b at 0 0 Nop room (sym (p .0)) (sym (p .1)) (sym nop) true refl refl true refl refl (omega arith) (goodValue k 0 b (at + 4)) refl (ap not (nop-value k b (at + 4)))
 

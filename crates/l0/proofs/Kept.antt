@@ -19,7 +19,7 @@ use Rattle.store.proofs.Search.{no-bool, first-bounds, Found, first-found}
 use Rattle.store.proofs.Kept.{guest-kept, vcpu-kept, delete-kept, delete-all-kept, caps-kept}
 use Rattle.store.proofs.Small.{sound-small, fresh-good}
 use Rattle.l0.specs.Refusals.{Outcome, accept, refuse, decide}
-use Rattle.l0.specs.Calls.{getCapabilities, setCapabilities, createGuest, createVcpu, allGuests, deleteGuest, guestClock, Call, GetCapabilities, SetCapabilities, CreateGuest, CreateVcpu, DeleteGuest, GuestClock, outcome, after}
+use Rattle.l0.specs.Calls.{freshStore, getCapabilities, setCapabilities, createGuest, createVcpu, allGuests, deleteGuest, guestClock, Call, GetCapabilities, SetCapabilities, CreateGuest, CreateVcpu, DeleteGuest, GuestClock, outcome, after}
 
 -- no test of the refusals holds
 abbrev pub Passed : List (Bool × Fault) → Type 0
@@ -55,6 +55,10 @@ refused-unchanged l s (CreateGuest flags token) = decided (Unchanged s) s _ _ _ 
 refused-unchanged l s (CreateVcpu flags guest vcpu) = decided (Unchanged s) s _ _ _ (kept s) (λ p. done s _ _)
 refused-unchanged l s (DeleteGuest flags guest) = decided (Unchanged s) s _ _ _ (kept s) (λ p. done s _ _)
 refused-unchanged l s (GuestClock guest timebase) = decided (Unchanged s) s _ _ _ (kept s) (λ p. done s _ _)
+
+pub fresh-unchanged : (l : Layout) (s : List ℕ) → Unchanged s (freshStore l s)
+unfolding freshStore
+fresh-unchanged l s = decided (Unchanged s) s _ _ _ (kept s) (λ p. done s _ _)
 
 -- ---- a well-formed store stays well formed
 record Stays (l : Layout) (o : Outcome) : Type 0 where
