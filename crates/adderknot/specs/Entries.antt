@@ -1,4 +1,4 @@
--- 01, "Answers": what a C caller sees of a call: R3, R4 and R5, and the store.
+-- 01, "Answers": what a C caller sees of a call: R3, R4 and R5, and the lent memory that it may write.
 use Prim.Native.Nat.{ℕ}
 use mathlib.Core.List.{List}
 use Rattle.answer.specs.declared.Call.{Call}
@@ -19,6 +19,14 @@ tells c o = told c (o .answer .fault) (o .answer .value)
 
 abbrev pub leaves : Call → Outcome → Left
 leaves c o = record { registers = tells c o; store = o .store }
+
+-- of a call that writes a buffer: the store it is lent can't change
+pub record Filled : Type 0 where
+  pub registers : Registers
+  pub buffer : List ℕ
+
+abbrev pub fills : Call → Outcome → Filled
+fills c o = record { registers = tells c o; buffer = o .buffer }
 
 -- a lookup's answer and where the part lies
 abbrev pub foundAt : Looked → Found

@@ -8,8 +8,9 @@ ghost use Rattle.answer.specs.declared.Call.{Call};
 ghost use Rattle.answer.specs.Answer.{told};
 ghost use Rattle.store.specs.Layout.{small};
 ghost use Rattle.gsb.specs.Lookup.{lookedUp};
+ghost use Rattle.l0.specs.State.{getState, setState};
 ghost use Rattle.l0.specs.Calls.{freshStore, getCapabilities, setCapabilities, createGuest, createVcpu, deleteGuest, guestClock};
-ghost use Rattle.adderknot.specs.Entries.{Left, leaves, tells, foundAt};
+ghost use Rattle.adderknot.specs.Entries.{Left, leaves, Filled, fills, tells, foundAt};
 
 #[no_mangle]
 pub extern "C" fn adk_fresh_store(store: &mut [u8]) -> Registers
@@ -47,6 +48,38 @@ pub extern "C" fn adk_create_vcpu(store: &mut [u8], flags: u64, guest: u64, vcpu
     ensures { λ r. ⌜ _≡_ {A = Left} (record { registers = r; store = now (store .exit) }) (leaves Call.CreateVcpu (createVcpu small (now (store .entry)) flags guest vcpu)) ⌝ }
 {
     registers_of(Call::CreateVcpu, l0::create_vcpu(store, flags, guest, vcpu))
+}
+
+#[no_mangle]
+pub extern "C" fn adk_get_state(
+    store: &[u8],
+    flags: u64,
+    guest: u64,
+    vcpu: u64,
+    buffer: &mut [u8],
+) -> Registers
+    ensures { λ r. ⌜ _≡_ {A = Filled} (record { registers = r; buffer = now (buffer .exit) }) (fills Call.GetState (getState small (now (store .entry)) flags guest vcpu (now (buffer .entry)))) ⌝ }
+{
+    registers_of(
+        Call::GetState,
+        l0::get_state(store, flags, guest, vcpu, buffer),
+    )
+}
+
+#[no_mangle]
+pub extern "C" fn adk_set_state(
+    store: &mut [u8],
+    flags: u64,
+    guest: u64,
+    vcpu: u64,
+    buffer: &[u8],
+) -> Registers
+    ensures { λ r. ⌜ _≡_ {A = Left} (record { registers = r; store = now (store .exit) }) (leaves Call.SetState (setState small (now (store .entry)) flags guest vcpu (now (buffer .entry)))) ⌝ }
+{
+    registers_of(
+        Call::SetState,
+        l0::set_state(store, flags, guest, vcpu, buffer),
+    )
 }
 
 #[no_mangle]

@@ -20,8 +20,8 @@ use Rattle.store.specs.Header.{header, outside, offered, live, slotOf, freeSlot
 use Rattle.store.specs.Store.{wellFormed, fresh, putCapabilities, withGuest, withVcpu, withoutGuest, withoutGuests}
 use Rattle.l0.specs.declared.Admission.{Admission}
 use Rattle.l0.specs.declared.Admission.the-variants.{Admitted, Refused}
-use Rattle.l0.specs.Refusals.{Outcome, success, refusal, accept, refuse, decide, admission, bit0}
-use Rattle.l0.specs.Calls.{freshStore, getCapabilities, setCapabilities, createGuest, createVcpu, allGuests, deleteGuest, offsetOf, guestClock}
+use Rattle.l0.specs.Refusals.{Outcome, success, refusal, accept, refuse, decide, admission, bit0, hasBit0}
+use Rattle.l0.specs.Calls.{freshStore, getCapabilities, setCapabilities, createGuest, createVcpu, deleteGuest, offsetOf, guestClock}
 use Rattle.l0.proofs.FirstTests.{refused, Past, past, admitted}
 
 -- where 0x0004 stands in a guest's values
@@ -52,24 +52,24 @@ module _ (l : Layout) (e : l ≡ small) (s : List ℕ) (r : Answer) where
 module _ (l : Layout) (e : l ≡ small) (s : List ℕ) (flags : ℕ) (a : Admission) (q : a ≡ admission l s 0 flags) (r : Answer) where
   pub get-refused : (f : Fault) → a ≡ Refused f → r ≡ refusal f → left r s ≡ getCapabilities small s flags
   unfolding getCapabilities decide
-  get-refused f h i = ap (λ (x : Answer). left x s) i ∙ sym (refused l s 0 flags (refuse s) (accept offered s) a f q h) ∙ ap (λ (m : Layout). getCapabilities m s flags) e
+  get-refused f h i = ap (λ (x : Answer). left x s) i ∙ sym (refused l s 0 flags (refuse s []) (accept offered s) a f q h) ∙ ap (λ (m : Layout). getCapabilities m s flags) e
 
   pub get-told : a ≡ Admitted → r ≡ success offered → left r s ≡ getCapabilities small s flags
   unfolding getCapabilities decide
-  get-told h i = ap (λ (x : Answer). left x s) i ∙ sym (admitted l s 0 flags (refuse s) (accept offered s) (past l s 0 flags a q h)) ∙ ap (λ (m : Layout). getCapabilities m s flags) e
+  get-told h i = ap (λ (x : Answer). left x s) i ∙ sym (admitted l s 0 flags (refuse s []) (accept offered s) (past l s 0 flags a q h)) ∙ ap (λ (m : Layout). getCapabilities m s flags) e
 
   module _ (bitmap : ℕ) where
     rest : Outcome
-    rest = cond (not (eqb (outside offered bitmap) 0)) (refuse s Capability) (accept 0 (putCapabilities s bitmap))
+    rest = cond (not (eqb (outside offered bitmap) 0)) (refuse s [] Capability) (accept 0 (putCapabilities s bitmap))
 
     pub set-refused : (f : Fault) → a ≡ Refused f → r ≡ refusal f → left r s ≡ setCapabilities small s flags bitmap
     unfolding setCapabilities decide rest
-    set-refused f h i = ap (λ (x : Answer). left x s) i ∙ sym (refused l s 0 flags (refuse s) rest a f q h) ∙ ap (λ (m : Layout). setCapabilities m s flags bitmap) e
+    set-refused f h i = ap (λ (x : Answer). left x s) i ∙ sym (refused l s 0 flags (refuse s []) rest a f q h) ∙ ap (λ (m : Layout). setCapabilities m s flags bitmap) e
 
     module _ (h : a ≡ Admitted) (x : ℕ) (o : x ≡ outside offered bitmap) where
       set-past : setCapabilities small s flags bitmap ≡ rest
       unfolding setCapabilities decide rest
-      set-past = ap (λ (m : Layout). setCapabilities m s flags bitmap) (sym e) ∙ admitted l s 0 flags (refuse s) rest (past l s 0 flags a q h)
+      set-past = ap (λ (m : Layout). setCapabilities m s flags bitmap) (sym e) ∙ admitted l s 0 flags (refuse s []) rest (past l s 0 flags a q h)
 
       pub set-other : (x ≡ 0 → ⊥) → r ≡ refusal Capability → left r s ≡ setCapabilities small s flags bitmap
       unfolding rest
@@ -87,17 +87,17 @@ module _ (l : Layout) (e : l ≡ small) (s : List ℕ) (flags : ℕ) (a : Admiss
 module _ (l : Layout) (e : l ≡ small) (s : List ℕ) (flags token : ℕ) (a : Admission) (q : a ≡ admission l s 0 flags) (r : Answer) where
   guest-rest : Outcome
   guest-rest =
-      cond (not (eqb token (2 ^ 64 - 1))) (refuse s Token)
-      (cond (ltb (l .guests) (freeGuest l (header l s))) (refuse s Room) (accept (freeGuest l (header l s)) (withGuest l s (freeGuest l (header l s)))))
+      cond (not (eqb token (2 ^ 64 - 1))) (refuse s [] Token)
+      (cond (ltb (l .guests) (freeGuest l (header l s))) (refuse s [] Room) (accept (freeGuest l (header l s)) (withGuest l s (freeGuest l (header l s)))))
 
   pub guest-refused : (f : Fault) → a ≡ Refused f → r ≡ refusal f → left r s ≡ createGuest small s flags token
   unfolding createGuest decide guest-rest
-  guest-refused f h i = ap (λ (x : Answer). left x s) i ∙ sym (refused l s 0 flags (refuse s) guest-rest a f q h) ∙ ap (λ (m : Layout). createGuest m s flags token) e
+  guest-refused f h i = ap (λ (x : Answer). left x s) i ∙ sym (refused l s 0 flags (refuse s []) guest-rest a f q h) ∙ ap (λ (m : Layout). createGuest m s flags token) e
 
   module _ (h : a ≡ Admitted) where
     guest-past : createGuest small s flags token ≡ guest-rest
     unfolding createGuest decide guest-rest
-    guest-past = ap (λ (m : Layout). createGuest m s flags token) (sym e) ∙ admitted l s 0 flags (refuse s) guest-rest (past l s 0 flags a q h)
+    guest-past = ap (λ (m : Layout). createGuest m s flags token) (sym e) ∙ admitted l s 0 flags (refuse s []) guest-rest (past l s 0 flags a q h)
 
     pub guest-token : (token ≡ 2 ^ 64 - 1 → ⊥) → r ≡ refusal Token → left r s ≡ createGuest small s flags token
     unfolding guest-rest
@@ -120,19 +120,19 @@ module _ (l : Layout) (e : l ≡ small) (s : List ℕ) (flags token : ℕ) (a : 
 module _ (l : Layout) (e : l ≡ small) (s : List ℕ) (flags guest vcpu : ℕ) (a : Admission) (q : a ≡ admission l s 0 flags) (r : Answer) where
   vcpu-rest : Outcome
   vcpu-rest =
-      cond (not (live l (header l s) guest)) (refuse s Guest)
-      (cond (not (ltb vcpu 2048)) (refuse s Vcpu)
-      (cond (ltb (slotOf l (header l s) guest vcpu) (l .slots)) (refuse s Exists)
-      (cond (not (ltb (freeSlot l (header l s)) (l .slots))) (refuse s Room) (accept 0 (withVcpu l s (freeSlot l (header l s)) guest vcpu)))))
+      cond (not (live l (header l s) guest)) (refuse s [] Guest)
+      (cond (not (ltb vcpu 2048)) (refuse s [] Vcpu)
+      (cond (ltb (slotOf l (header l s) guest vcpu) (l .slots)) (refuse s [] Exists)
+      (cond (not (ltb (freeSlot l (header l s)) (l .slots))) (refuse s [] Room) (accept 0 (withVcpu l s (freeSlot l (header l s)) guest vcpu)))))
 
   pub vcpu-refused : (f : Fault) → a ≡ Refused f → r ≡ refusal f → left r s ≡ createVcpu small s flags guest vcpu
   unfolding createVcpu decide vcpu-rest
-  vcpu-refused f h i = ap (λ (x : Answer). left x s) i ∙ sym (refused l s 0 flags (refuse s) vcpu-rest a f q h) ∙ ap (λ (m : Layout). createVcpu m s flags guest vcpu) e
+  vcpu-refused f h i = ap (λ (x : Answer). left x s) i ∙ sym (refused l s 0 flags (refuse s []) vcpu-rest a f q h) ∙ ap (λ (m : Layout). createVcpu m s flags guest vcpu) e
 
   module _ (h : a ≡ Admitted) (x : Bool) (o : x ≡ live l (header l s) guest) where
     vcpu-past : createVcpu small s flags guest vcpu ≡ vcpu-rest
     unfolding createVcpu decide vcpu-rest
-    vcpu-past = ap (λ (m : Layout). createVcpu m s flags guest vcpu) (sym e) ∙ admitted l s 0 flags (refuse s) vcpu-rest (past l s 0 flags a q h)
+    vcpu-past = ap (λ (m : Layout). createVcpu m s flags guest vcpu) (sym e) ∙ admitted l s 0 flags (refuse s []) vcpu-rest (past l s 0 flags a q h)
 
     pub vcpu-dead : not x ≡ true → r ≡ refusal Guest → left r s ≡ createVcpu small s flags guest vcpu
     unfolding vcpu-rest
@@ -174,17 +174,17 @@ module _ (l : Layout) (e : l ≡ small) (s : List ℕ) (flags guest vcpu : ℕ) 
 module _ (l : Layout) (e : l ≡ small) (s : List ℕ) (flags guest : ℕ) (a : Admission) (q : a ≡ admission l s (2 ^ 63) flags) (r : Answer) where
   delete-rest : Outcome
   delete-rest =
-      cond (not (allGuests flags) && not (live l (header l s) guest)) (refuse s Guest)
-      (accept 0 (cond (allGuests flags) (withoutGuests l s) (withoutGuest l s guest)))
+      cond (not (hasBit0 flags) && not (live l (header l s) guest)) (refuse s [] Guest)
+      (accept 0 (cond (hasBit0 flags) (withoutGuests l s) (withoutGuest l s guest)))
 
   pub delete-refused : (f : Fault) → a ≡ Refused f → r ≡ refusal f → left r s ≡ deleteGuest small s flags guest
   unfolding deleteGuest decide delete-rest
-  delete-refused f h i = ap (λ (x : Answer). left x s) i ∙ sym (refused l s (2 ^ 63) flags (refuse s) delete-rest a f q h) ∙ ap (λ (m : Layout). deleteGuest m s flags guest) e
+  delete-refused f h i = ap (λ (x : Answer). left x s) i ∙ sym (refused l s (2 ^ 63) flags (refuse s []) delete-rest a f q h) ∙ ap (λ (m : Layout). deleteGuest m s flags guest) e
 
   module _ (h : a ≡ Admitted) where
     delete-past : deleteGuest small s flags guest ≡ delete-rest
     unfolding deleteGuest decide delete-rest
-    delete-past = ap (λ (m : Layout). deleteGuest m s flags guest) (sym e) ∙ admitted l s (2 ^ 63) flags (refuse s) delete-rest (past l s (2 ^ 63) flags a q h)
+    delete-past = ap (λ (m : Layout). deleteGuest m s flags guest) (sym e) ∙ admitted l s (2 ^ 63) flags (refuse s []) delete-rest (past l s (2 ^ 63) flags a q h)
 
     pub delete-all : (w : List ℕ) → flags / 2 ^ 63 ≡ 1 → w ≡ withoutGuests l s → r ≡ success 0 → left r w ≡ deleteGuest small s flags guest
     unfolding delete-rest

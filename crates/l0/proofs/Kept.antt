@@ -12,14 +12,23 @@ use Rattle.answer.specs.declared.Fault.{Fault}
 use Rattle.answer.specs.declared.Fault.the-variants.{None}
 use Rattle.answer.specs.Refusals.{firstOf}
 use Rattle.store.specs.declared.Layout.{Layout}
-use Rattle.store.specs.Layout.{Sound, small}
+use Rattle.store.specs.Layout.{Sound, small, guestAt, slotAt}
 use Rattle.store.specs.Header.{header, outside, offered, live, holds, slotOf, freeSlot, isDead, freeGuest, word, slotHolding}
 use Rattle.store.specs.Store.{wellFormed, fresh, withoutGuest, withoutGuests}
 use Rattle.store.proofs.Search.{no-bool, first-bounds, Found, first-found}
 use Rattle.store.proofs.Kept.{guest-kept, vcpu-kept, delete-kept, delete-all-kept, caps-kept}
 use Rattle.store.proofs.Small.{sound-small, fresh-good}
-use Rattle.l0.specs.Refusals.{Outcome, accept, refuse, decide}
-use Rattle.l0.specs.Calls.{freshStore, getCapabilities, setCapabilities, createGuest, createVcpu, allGuests, deleteGuest, guestClock, Call, GetCapabilities, SetCapabilities, CreateGuest, CreateVcpu, DeleteGuest, GuestClock, outcome, after}
+use Rattle.store.proofs.Frame.{formed-values}
+use Rattle.elements.specs.declared.Source.{Source}
+use Rattle.elements.specs.declared.Source.the-variants.{Fixed, Stored}
+use Rattle.elements.specs.declared.Kind.{Kind}
+use Rattle.elements.specs.declared.Kind.the-variants.{Unlisted, Nop, Listed}
+use Rattle.elements.specs.Table.{kindOf}
+use Rattle.gsb.specs.Walk.{countOf, idAt, offsetAt}
+use Rattle.transfer.specs.Transfer.{valueAt, putFrom, putAs, applied}
+use Rattle.l0.specs.Refusals.{Outcome, accept, refuse, decide, hasBit0}
+use Rattle.l0.specs.Calls.{freshStore, getCapabilities, setCapabilities, createGuest, createVcpu, deleteGuest, guestClock, Call, GetCapabilities, SetCapabilities, CreateGuest, CreateVcpu, GetState, SetState, DeleteGuest, GuestClock, outcome, after}
+use Rattle.l0.specs.State.{baseOf, getState, setState}
 
 -- no test of the refusals holds
 abbrev pub Passed : List (Bool × Fault) → Type 0
@@ -27,63 +36,104 @@ Passed [] = Unit {0}
 Passed (x ∷ xs) = (x .0 ≡ false) × Passed xs
 
 -- P of a call: P of each refusal, and of what it does where no test holds
-pub decided : (P : Outcome → Type 0) (s : List ℕ) (tests : List (Bool × Fault)) (v : ℕ) (t : List ℕ) → ((f : Fault) → P (refuse s f)) → (Passed tests → P (accept v t)) → P (decide s tests v t)
+pub decided : (P : Outcome → Type 0) (s b : List ℕ) (tests : List (Bool × Fault)) (o : Outcome) → ((f : Fault) → P (refuse s b f)) → (Passed tests → P o) → P (decide s b tests o)
 unfolding decide
-decided P s [] v t r g = g tt
-decided P s (x ∷ xs) v t r g = go (x .0) refl (decided P s xs v t r)
+decided P s b [] o r g = g tt
+decided P s b (x ∷ xs) o r g = go (x .0) refl (decided P s b xs o r)
   where
-    go : (b : Bool) → x .0 ≡ b → ((Passed xs → P (accept v t)) → P (firstOf (refuse s) xs (accept v t))) → P (cond b (refuse s (x .1)) (firstOf (refuse s) xs (accept v t)))
+    go : (t : Bool) → x .0 ≡ t → ((Passed xs → P o) → P (firstOf (refuse s b) xs o)) → P (cond t (refuse s b (x .1)) (firstOf (refuse s b) xs o))
     go true e ih = r (x .1)
     go false e ih = ih (λ p. g (e, p))
 
 -- ---- a refusal changes nothing
-pub record Unchanged (s : List ℕ) (o : Outcome) : Type 0 where
-  pub same : (o .answer .fault ≡ None → ⊥) → o .store ≡ s
+pub record Unchanged (s b : List ℕ) (o : Outcome) : Type 0 where
+  pub store : (o .answer .fault ≡ None → ⊥) → o .store ≡ s
+  pub buffer : (o .answer .fault ≡ None → ⊥) → o .buffer ≡ b
 
-kept : (s : List ℕ) (f : Fault) → Unchanged s (refuse s f)
-kept s f = record { same = λ n. refl }
+kept : (s b : List ℕ) (f : Fault) → Unchanged s b (refuse s b f)
+kept s b f = record { store = λ n. refl; buffer = λ n. refl }
 
 -- an accepted call is none
-done : (s : List ℕ) (v : ℕ) (t : List ℕ) → Unchanged s (accept v t)
-done s v t = record { same = λ n. absurd (n refl) }
+done : (s b : List ℕ) (o : Outcome) → o .answer .fault ≡ None → Unchanged s b o
+done s b o e = record { store = λ n. absurd (n e); buffer = λ n. absurd (n e) }
 
-pub refused-unchanged : (l : Layout) (s : List ℕ) (c : Call) → Unchanged s (outcome l s c)
-unfolding outcome getCapabilities setCapabilities createGuest createVcpu deleteGuest guestClock
-refused-unchanged l s (GetCapabilities flags) = decided (Unchanged s) s _ _ _ (kept s) (λ p. done s _ _)
-refused-unchanged l s (SetCapabilities flags bitmap) = decided (Unchanged s) s _ _ _ (kept s) (λ p. done s _ _)
-refused-unchanged l s (CreateGuest flags token) = decided (Unchanged s) s _ _ _ (kept s) (λ p. done s _ _)
-refused-unchanged l s (CreateVcpu flags guest vcpu) = decided (Unchanged s) s _ _ _ (kept s) (λ p. done s _ _)
-refused-unchanged l s (DeleteGuest flags guest) = decided (Unchanged s) s _ _ _ (kept s) (λ p. done s _ _)
-refused-unchanged l s (GuestClock guest timebase) = decided (Unchanged s) s _ _ _ (kept s) (λ p. done s _ _)
+-- the buffer that a call is lent to write
+abbrev lent : Call → List ℕ
+lent (GetCapabilities flags) = []
+lent (SetCapabilities flags bitmap) = []
+lent (CreateGuest flags token) = []
+lent (CreateVcpu flags guest vcpu) = []
+lent (GetState flags guest vcpu buffer) = buffer
+lent (SetState flags guest vcpu buffer) = []
+lent (DeleteGuest flags guest) = []
+lent (GuestClock guest timebase) = []
 
-pub fresh-unchanged : (l : Layout) (s : List ℕ) → Unchanged s (freshStore l s)
+pub refused-unchanged : (l : Layout) (s : List ℕ) (c : Call) → Unchanged s (lent c) (outcome l s c)
+unfolding outcome getCapabilities setCapabilities createGuest createVcpu getState setState deleteGuest guestClock
+refused-unchanged l s (GetCapabilities flags) = decided (Unchanged s []) s [] _ _ (kept s []) (λ p. done s [] _ refl)
+refused-unchanged l s (SetCapabilities flags bitmap) = decided (Unchanged s []) s [] _ _ (kept s []) (λ p. done s [] _ refl)
+refused-unchanged l s (CreateGuest flags token) = decided (Unchanged s []) s [] _ _ (kept s []) (λ p. done s [] _ refl)
+refused-unchanged l s (CreateVcpu flags guest vcpu) = decided (Unchanged s []) s [] _ _ (kept s []) (λ p. done s [] _ refl)
+refused-unchanged l s (GetState flags guest vcpu buffer) = decided (Unchanged s buffer) s buffer _ _ (kept s buffer) (λ p. done s buffer _ refl)
+refused-unchanged l s (SetState flags guest vcpu buffer) = decided (Unchanged s []) s [] _ _ (kept s []) (λ p. done s [] _ refl)
+refused-unchanged l s (DeleteGuest flags guest) = decided (Unchanged s []) s [] _ _ (kept s []) (λ p. done s [] _ refl)
+refused-unchanged l s (GuestClock guest timebase) = decided (Unchanged s []) s [] _ _ (kept s []) (λ p. done s [] _ refl)
+
+pub fresh-unchanged : (l : Layout) (s : List ℕ) → Unchanged s [] (freshStore l s)
 unfolding freshStore
-fresh-unchanged l s = decided (Unchanged s) s _ _ _ (kept s) (λ p. done s _ _)
+fresh-unchanged l s = decided (Unchanged s []) s [] _ _ (kept s []) (λ p. done s [] _ refl)
 
 -- ---- a well-formed store stays well formed
+-- values stored behind the header leave it as it was
+stored-kept : (l : Layout) → Sound l → (kind : Kind) (base : ℕ) (v s : List ℕ) → l .«guests_at» ≤ base → wellFormed l (putAs kind base v s) ≡ wellFormed l s
+unfolding putAs putFrom
+stored-kept l so Unlisted base v s k = refl
+stored-kept l so Nop base v s k = refl
+stored-kept l so (Listed x) base v s k = go (x .source)
+  where
+    go : (y : Source) → wellFormed l (putFrom y base v s) ≡ wellFormed l s
+    go (Fixed n) = refl
+    go (Stored p) = formed-values l so s (base + p) v (omega arith)
+
+applied-kept : (l : Layout) → Sound l → (base : ℕ) (b : List ℕ) (n : ℕ) (s : List ℕ) → l .«guests_at» ≤ base → wellFormed l (applied base b n s) ≡ wellFormed l s
+unfolding applied
+applied-kept l so base b zero s k = refl
+applied-kept l so base b (suc n) s k = stored-kept l so (kindOf (idAt b (offsetAt b n))) base (valueAt b (offsetAt b n)) (applied base b n s) k ∙ applied-kept l so base b n s k
+
+base-values : (l : Layout) → Sound l → (s : List ℕ) (flags guest vcpu : ℕ) → l .«guests_at» ≤ baseOf l s flags guest vcpu
+unfolding baseOf
+base-values l so s flags guest vcpu = go (hasBit0 flags)
+  where
+    go : (t : Bool) → l .«guests_at» ≤ cond t (guestAt l guest) (slotAt l (slotOf l (header l s) guest vcpu))
+    go true = omega arith
+    go false = omega (arith, so .guests-fit)
+
 record Stays (l : Layout) (o : Outcome) : Type 0 where
   formed : wellFormed l (o .store) ≡ true
 
 module _ (l : Layout) (so : Sound l) (s : List ℕ) (good : wellFormed l s ≡ true) where
-  same : (f : Fault) → Stays l (refuse s f)
-  same f = record { formed = good }
+  same-with : (b : List ℕ) (f : Fault) → Stays l (refuse s b f)
+  same-with b f = record { formed = good }
+
+  same : (f : Fault) → Stays l (refuse s [] f)
+  same = same-with []
 
   guest-stays : (flags token : ℕ) → Stays l (createGuest l s flags token)
   unfolding createGuest freeGuest
   guest-stays flags token =
-      decided (Stays l) s _ _ _ same
+      decided (Stays l) s [] _ _ same
       (λ p. record { formed = guest-kept l so s good (freeGuest l (header l s)) (first-bounds (isDead l (header l s)) (l .guests) 1 .0) (ltb-false _ _ (p .1 .1 .1 .0)) })
 
   vcpu-stays : (flags guest vcpu : ℕ) → Stays l (createVcpu l s flags guest vcpu)
   unfolding createVcpu
   vcpu-stays flags guest vcpu =
-      decided (Stays l) s _ _ _ same
+      decided (Stays l) s [] _ _ same
       (λ p. let q = p .1 .1 in
       record { formed = vcpu-kept l so s good guest vcpu (not-false _ (q .0)) (ltb-true _ _ (not-false _ (q .1 .0))) (ltb-true _ _ (not-false _ (q .1 .1 .1 .0))) (ltb-false _ _ (q .1 .1 .0)) })
 
   delete-stays : (flags guest : ℕ) → Stays l (deleteGuest l s flags guest)
   unfolding deleteGuest
-  delete-stays flags guest = decided (Stays l) s _ _ _ same (λ p. go (allGuests flags) (p .1 .1 .0))
+  delete-stays flags guest = decided (Stays l) s [] _ _ same (λ p. go (hasBit0 flags) (p .1 .1 .0))
     where
       go : (all : Bool) → (not all && not (live l (header l s) guest)) ≡ false → Stays l (accept 0 (cond all (withoutGuests l s) (withoutGuest l s guest)))
       go true e = record { formed = delete-all-kept l so s good }
@@ -91,16 +141,28 @@ module _ (l : Layout) (so : Sound l) (s : List ℕ) (good : wellFormed l s ≡ t
 
   caps-stay : (flags bitmap : ℕ) → Stays l (setCapabilities l s flags bitmap)
   unfolding setCapabilities
-  caps-stay flags bitmap = decided (Stays l) s _ _ _ same (λ p. record { formed = caps-kept l so s good bitmap (eqb-true _ _ (not-false _ (p .1 .1 .0))) })
+  caps-stay flags bitmap = decided (Stays l) s [] _ _ same (λ p. record { formed = caps-kept l so s good bitmap (eqb-true _ _ (not-false _ (p .1 .1 .0))) })
+
+  set-stays : (flags guest vcpu : ℕ) (b : List ℕ) → Stays l (setState l s flags guest vcpu b)
+  unfolding setState
+  set-stays flags guest vcpu b =
+      decided (Stays l) s [] _ _ same
+      (λ p. record { formed = applied-kept l so (baseOf l s flags guest vcpu) b (countOf b) s (base-values l so s flags guest vcpu) ∙ good })
+
+  get-stays : (flags guest vcpu : ℕ) (b : List ℕ) → Stays l (getState l s flags guest vcpu b)
+  unfolding getState
+  get-stays flags guest vcpu b = decided (Stays l) s b _ _ (same-with b) (λ p. record { formed = good })
 
   stays : (c : Call) → Stays l (outcome l s c)
   unfolding outcome getCapabilities guestClock
-  stays (GetCapabilities flags) = decided (Stays l) s _ _ _ same (λ p. record { formed = good })
+  stays (GetCapabilities flags) = decided (Stays l) s [] _ _ same (λ p. record { formed = good })
   stays (SetCapabilities flags bitmap) = caps-stay flags bitmap
   stays (CreateGuest flags token) = guest-stays flags token
   stays (CreateVcpu flags guest vcpu) = vcpu-stays flags guest vcpu
+  stays (GetState flags guest vcpu buffer) = get-stays flags guest vcpu buffer
+  stays (SetState flags guest vcpu buffer) = set-stays flags guest vcpu buffer
   stays (DeleteGuest flags guest) = delete-stays flags guest
-  stays (GuestClock guest timebase) = decided (Stays l) s _ _ _ same (λ p. record { formed = good })
+  stays (GuestClock guest timebase) = decided (Stays l) s [] _ _ same (λ p. record { formed = good })
 
   pub well-formed-kept : (c : Call) → wellFormed l (outcome l s c .store) ≡ true
   well-formed-kept c = stays c .formed

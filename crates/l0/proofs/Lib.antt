@@ -2,3 +2,5 @@ pub mod FirstTests
 pub mod Answers
 pub mod Kept
 pub mod Lowest
+pub mod Targets
+pub mod Buffers

@@ -1,5 +1,5 @@
 -- 01, "Answers": the tests that most calls begin with, each with its fault.
-use Prim.Native.Nat.{ℕ, _^_}
+use Prim.Native.Nat.{ℕ, _/_, _^_}
 use mathlib.Core.Bool.{Bool, not}
 use mathlib.Core.List.{List, [], _∷_}
 use lib.Count.{leadingZeros}
@@ -26,16 +26,17 @@ success v = record { fault = None; value = v }
 abbrev pub refusal : Fault → Answer
 refusal f = record { fault = f; value = 0 }
 
--- a call that writes no buffer. "A refusal changes no byte of the store, the cache or any buffer."
+-- an accepted call that writes no buffer
 abbrev pub accept : ℕ → List ℕ → Outcome
 accept v s = record { answer = success v; store = s; buffer = [] }
 
-abbrev pub refuse : List ℕ → Fault → Outcome
-refuse s f = record { answer = refusal f; store = s; buffer = [] }
+-- "A refusal changes no byte of the store, the cache or any buffer."
+abbrev pub refuse : List ℕ → List ℕ → Fault → Outcome
+refuse s b f = record { answer = refusal f; store = s; buffer = b }
 
--- "When several apply", the first test that holds refuses the call; else it answers v and leaves the store t.
-unfoldable pub decide : List ℕ → List (Bool × Fault) → ℕ → List ℕ → Outcome
-decide s tests v t = firstOf (refuse s) tests (accept v t)
+-- "When several apply", the first test that holds refuses the call, whose store is s and whose lent buffer is b; else the outcome is o.
+unfoldable pub decide : List ℕ → List ℕ → List (Bool × Fault) → Outcome → Outcome
+decide s b tests o = firstOf (refuse s b) tests o
 
 -- 1: "store not well formed"
 abbrev pub malformed : Layout → List ℕ → Bool × Fault
@@ -53,6 +54,9 @@ notLive l s g = (not (live l (header l s) g), Guest)
 unfoldable pub admission : Layout → List ℕ → ℕ → ℕ → Admission
 admission l s supported flags = firstOf Refused (malformed l s ∷ unsupported supported flags ∷ []) Admitted
 
--- bit 0 of 64
+-- bit 0 of 64, and whether a flag word has it, which may have no bit before it
 abbrev pub bit0 : ℕ
 bit0 = 2 ^ 63
+
+abbrev pub hasBit0 : ℕ → Bool
+hasBit0 flags = eqb (flags / bit0) 1

@@ -3,6 +3,7 @@ mod capabilities;
 mod clock;
 mod early;
 mod guests;
+mod state;
 
 use answer::Fault;
 pub use capabilities::fresh_store;
@@ -12,9 +13,18 @@ pub use clock::guest_clock;
 pub use guests::create_guest;
 pub use guests::create_vcpu;
 pub use guests::delete_guest;
+pub use state::get_state;
+pub use state::set_state;
 
 // Past the first tests of a call, or refused by one.
 pub enum Admission {
     Admitted,
     Refused(Fault),
+}
+
+// What a get or set works on: where the values of a guest or of a slot start; or a refusal by the tests before.
+pub enum Target {
+    Turned(Fault),
+    Wide(usize),
+    Slot(usize),
 }

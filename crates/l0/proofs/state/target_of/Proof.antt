@@ -1,0 +1,60 @@
+-- By how far the tests came: the laws `target-..` of Targets.
+use native.Mathlib.Omega.{arith}
+use Rattle.l0.proofs.FirstTests.{past-long, live-some, live-few}
+use Rattle.l0.proofs.Targets.{target-refused, target-dead, target-wide, target-absent, target-slot}
+use borrow.Author.Needs.{needs}
+use Rattle.l0.proofs.state.target_of.Statement.{statement}
+use Rattle.l0.proofs.state.target_of.Tie as tie
+
+admit-requires : tie.Need-admit-requires
+admit-requires c κs = search needs
+
+enum-known-admission : tie.Need-enum-known-admission
+enum-known-admission c = search needs
+
+returns : tie.Need-returns
+returns c = (search (needs, target-refused), tt)
+
+enum-told : tie.Need-enum-told
+enum-told c = search needs
+
+is-live-requires : tie.Need-is-live-requires
+is-live-requires c κs = (search needs, search (needs, past-long))
+
+returns-2 : tie.Need-returns-2
+returns-2 c = (search (needs, target-dead), tt)
+
+guest-at-requires : tie.Need-guest-at-requires
+guest-at-requires c κs = (search needs, search (needs, live-some), search (needs, live-few))
+
+returns-3 : tie.Need-returns-3
+returns-3 c = (search (needs, target-wide), (past-long _ _ _ _ _ (c .before .before .before .before .before .before .admit .ensures) (c .before .before .before .before .enum-told .given .1), omega (arith, c .guest-at .ensures .2, c .before .before .before .before .before .before .before .before .pre .whole)))
+
+slot-of-requires : tie.Need-slot-of-requires
+slot-of-requires c κs = (search needs, search (needs, past-long))
+
+returns-4 : tie.Need-returns-4
+returns-4 c = (search (needs, target-absent), tt)
+
+slot-at-requires : tie.Need-slot-at-requires
+slot-at-requires c κs = search needs
+
+returns-5 : tie.Need-returns-5
+returns-5 c = (search (needs, target-slot), (past-long _ _ _ _ _ (c .before .before .before .before .before .before .before .before .before .admit .ensures) (c .before .before .before .before .before .before .before .enum-told .given .1), c .slot-at .ensures .2))
+
+pub target-of-spec : {M : Type 1} → statement M
+target-of-spec =
+    tie.close
+    (tie.spec
+    admit-requires
+    enum-known-admission
+    returns
+    enum-told
+    is-live-requires
+    returns-2
+    guest-at-requires
+    returns-3
+    slot-of-requires
+    returns-4
+    slot-at-requires
+    returns-5)

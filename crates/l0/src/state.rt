@@ -1,0 +1,117 @@
+// Get state and set state. The whole buffer is judged before a byte of the store or of the buffer changes.
+use super::Admission;
+use super::Target;
+use super::early::admit;
+use answer::Answer;
+use answer::Fault;
+use answer::refusal;
+use answer::success;
+use elements::Context;
+use elements::Usage;
+use gsb::Walked;
+use gsb::bad_length;
+use gsb::first_bad;
+use store::Layout;
+use store::capabilities_of;
+use store::guest_at;
+use store::is_live;
+use store::slot_at;
+use store::slot_of;
+use store::small_layout;
+use transfer::apply;
+use transfer::fill;
+ghost use mathlib.Core.Path.{_≡_};
+ghost use mathlib.Core.List.{[]};
+ghost use Prim.Native.Nat.{_+_, _≤_};
+ghost use lib.ListN.{length};
+ghost use Rattle.store.specs.Layout.{Sound, small};
+ghost use Rattle.l0.specs.Refusals.{Outcome};
+ghost use Rattle.l0.specs.State.{targetOf, setAt, setState, getAt, getState, bytesFor, Held};
+
+// The tests 1 to 4, and where the values of the guest or the vCPU start.
+fn target_of(store: &[u8], l: Layout, flags: u64, guest: usize, vcpu: usize) -> Target
+    requires { ⌜ Sound l ⌝ }
+    ensures { λ r. ⌜ r ≡ targetOf l (now (store .entry)) flags guest vcpu ⌝ }
+    ensures { λ r. ⌜ Held r l (length (now (store .entry))) ⌝ }
+{
+    let admission = admit(store, l, 0x8000_0000_0000_0000, flags);
+    match admission {
+        Admission::Refused(fault) => return Target::Turned(fault),
+        Admission::Admitted => {}
+    }
+    if !is_live(store, l, guest) {
+        return Target::Turned(Fault::Guest);
+    }
+    if flags / 0x8000_0000_0000_0000 == 1 {
+        return Target::Wide(guest_at(l, guest));
+    }
+    let slot = slot_of(store, l, guest, vcpu);
+    if l.slots <= slot {
+        return Target::Turned(Fault::Vcpu);
+    }
+    Target::Slot(slot_at(l, slot))
+}
+
+fn set_at(store: &mut [u8], l: Layout, base: usize, usage: Usage, buffer: &[u8]) -> Answer
+    requires { ⌜ Sound l × (length (now store) ≡ l .size) × (base + bytesFor usage ≤ l .size) ⌝ }
+    ensures { λ r. ⌜ _≡_ {A = Outcome} (record { answer = r; store = now (store .exit); buffer = [] }) (setAt l (now (store .entry)) base usage (now (buffer .entry))) ⌝ }
+{
+    if bad_length(buffer) {
+        return refusal(Fault::Length);
+    }
+    let k = Context {
+        usage,
+        capabilities: capabilities_of(store, l),
+    };
+    match first_bad(buffer, k) {
+        Walked::Stopped(bad, place) => return refusal(Fault::Element(bad, place)),
+        Walked::Done => {}
+    }
+    apply(store, base, buffer);
+    success(0)
+}
+
+// H_GUEST_SET_STATE.
+pub fn set_state(store: &mut [u8], flags: u64, guest: u64, vcpu: u64, buffer: &[u8]) -> Answer
+    ensures { λ r. ⌜ _≡_ {A = Outcome} (record { answer = r; store = now (store .exit); buffer = [] }) (setState small (now (store .entry)) flags guest vcpu (now (buffer .entry))) ⌝ }
+{
+    let l = small_layout();
+    let target = target_of(store, l, flags, guest as usize, vcpu as usize);
+    match target {
+        Target::Turned(fault) => refusal(fault),
+        Target::Wide(base) => set_at(store, l, base, Usage::GuestSet, buffer),
+        Target::Slot(base) => set_at(store, l, base, Usage::ThreadSet, buffer),
+    }
+}
+
+fn get_at(store: &[u8], l: Layout, base: usize, usage: Usage, buffer: &mut [u8]) -> Answer
+    requires { ⌜ Sound l × (length (now store) ≡ l .size) × (base + bytesFor usage ≤ l .size) ⌝ }
+    ensures { λ r. ⌜ _≡_ {A = Outcome} (record { answer = r; store = now (store .entry); buffer = now (buffer .exit) }) (getAt l (now (store .entry)) base usage (now (buffer .entry))) ⌝ }
+{
+    if bad_length(buffer) {
+        return refusal(Fault::Length);
+    }
+    let k = Context {
+        usage,
+        capabilities: capabilities_of(store, l),
+    };
+    match first_bad(buffer, k) {
+        Walked::Stopped(bad, place) => return refusal(Fault::Element(bad, place)),
+        Walked::Done => {}
+    }
+    fill(store, base, buffer);
+    success(0)
+}
+
+// H_GUEST_GET_STATE.
+pub fn get_state(store: &[u8], flags: u64, guest: u64, vcpu: u64, buffer: &mut [u8]) -> Answer
+    ensures { λ r. ⌜ _≡_ {A = Outcome} (record { answer = r; store = now (store .entry); buffer = now (buffer .exit) }) (getState small (now (store .entry)) flags guest vcpu (now (buffer .entry))) ⌝ }
+{
+    let l = small_layout();
+    let target = target_of(store, l, flags, guest as usize, vcpu as usize);
+    match target {
+        Target::Turned(fault) => refusal(fault),
+        Target::Wide(base) => get_at(store, l, base, Usage::GuestGet, buffer),
+        Target::Slot(base) => get_at(store, l, base, Usage::ThreadGet, buffer),
+    }
+}

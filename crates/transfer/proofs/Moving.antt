@@ -1,0 +1,156 @@
+-- The laws of one element's value moved, and of the loop that stores. Nothing else opens `putFrom`, `putAs`, `readFrom`, `fillAs` and
+-- `applied`. Assumes nothing.
+use mathlib.Core.Path.{_≡_, refl, sym, ap, ap₂, _∙_, subst}
+use mathlib.Core.List.{List}
+use Prim.Native.Nat.{ℕ, zero, suc, _+_, _-_, _≤_, _<_}
+use native.Mathlib.Numerals.{add-one}
+use native.Mathlib.Omega.{arith}
+use lib.ListN.{length}
+use Rattle.octets.specs.Bytes.{bytesAt, put, be, digits}
+use Rattle.octets.proofs.Bytes.{length-put, length-bytesAt}
+use Rattle.octets.proofs.Numbers.{length-digits}
+use Rattle.elements.specs.declared.Source.{Source}
+use Rattle.elements.specs.declared.Source.the-variants.{Fixed, Stored}
+use Rattle.elements.specs.declared.Entry.{Entry}
+use Rattle.elements.specs.declared.Kind.{Kind}
+use Rattle.elements.specs.declared.Kind.the-variants.{Unlisted, Nop, Listed}
+use Rattle.elements.specs.Table.{kindOf}
+use Rattle.gsb.specs.Walk.{countOf, idAt, sizeAt, nextAt, offsetAt}
+use Rattle.gsb.proofs.Judged.{empty-parts, nop}
+use Rattle.gsb.proofs.Walks.{offset-next}
+use Rattle.transfer.specs.Transfer.{valueAt, putFrom, putAs, applied, readFrom, fillAs, Fits, Moves, Ready, AllReady}
+
+-- ---- by the source
+module _ (source : Source) (base size len : ℕ) where
+  pub fits-stored : (p : ℕ) → Fits source base size len → source ≡ Stored p → base + p + size ≤ len
+  fits-stored p f e = subst (λ (x : Source). Fits x base size len) e f
+
+  pub fits-fixed : (n : ℕ) → Fits source base size len → source ≡ Fixed n → size ≡ 8
+  fits-fixed n f e = subst (λ (x : Source). Fits x base size len) e f
+
+module _ (source : Source) (base : ℕ) (v s : List ℕ) where
+  pub put-fixed : (n : ℕ) → source ≡ Fixed n → s ≡ putFrom source base v s
+  unfolding putFrom
+  put-fixed n e = sym (ap (λ (x : Source). putFrom x base v s) e)
+
+  pub put-stored : (p : ℕ) (t : List ℕ) → source ≡ Stored p → t ≡ put s (base + p) v → t ≡ putFrom source base v s
+  unfolding putFrom
+  put-stored p t e h = h ∙ sym (ap (λ (x : Source). putFrom x base v s) e)
+
+module _ (source : Source) (base size : ℕ) (s b : List ℕ) (to : ℕ) (t : List ℕ) where
+  pub fill-fixed : (n : ℕ) → source ≡ Fixed n → t ≡ put b to (digits 8 n) → t ≡ put b to (readFrom source base size s)
+  unfolding readFrom
+  fill-fixed n e h = h ∙ sym (ap (λ (x : Source). put b to (readFrom x base size s)) e)
+
+  pub fill-stored : (p : ℕ) → source ≡ Stored p → t ≡ put b to (bytesAt s (base + p) size) → t ≡ put b to (readFrom source base size s)
+  unfolding readFrom
+  fill-stored p e h = h ∙ sym (ap (λ (x : Source). put b to (readFrom x base size s)) e)
+
+pub length-read : (source : Source) (base size : ℕ) (s : List ℕ) → Fits source base size (length s) → length (readFrom source base size s) ≡ size
+unfolding readFrom
+length-read (Fixed n) base size s f = length-digits 8 n ∙ sym f
+length-read (Stored p) base size s f = length-bytesAt s (base + p) size f
+
+-- ---- by the kind
+module _ (kind : Kind) (base size len : ℕ) (x : Entry) (m : Moves kind base size len) (e : kind ≡ Listed x) where
+  moves-both : (size ≡ x .size) × Fits (x .source) base size len
+  moves-both = subst (λ (k : Kind). Moves k base size len) e m
+
+  pub moves-size : size ≡ x .size
+  moves-size = moves-both .0
+
+  pub moves-fits : Fits (x .source) base size len
+  moves-fits = moves-both .1
+
+module _ (kind : Kind) (base : ℕ) (v s : List ℕ) where
+  pub as-unlisted : kind ≡ Unlisted → s ≡ putAs kind base v s
+  unfolding putAs
+  as-unlisted e = sym (ap (λ (k : Kind). putAs k base v s) e)
+
+  pub as-nop : kind ≡ Nop → s ≡ putAs kind base v s
+  unfolding putAs
+  as-nop e = sym (ap (λ (k : Kind). putAs k base v s) e)
+
+  pub as-listed : (x : Entry) (t : List ℕ) → kind ≡ Listed x → t ≡ putFrom (x .source) base v s → t ≡ putAs kind base v s
+  unfolding putAs
+  as-listed x t e h = h ∙ sym (ap (λ (k : Kind). putAs k base v s) e)
+
+module _ (kind : Kind) (base : ℕ) (s : List ℕ) (at : ℕ) (b : List ℕ) where
+  pub fill-unlisted : kind ≡ Unlisted → b ≡ fillAs kind base s at b
+  unfolding fillAs
+  fill-unlisted e = sym (ap (λ (k : Kind). fillAs k base s at b) e)
+
+  pub fill-nop : kind ≡ Nop → b ≡ fillAs kind base s at b
+  unfolding fillAs
+  fill-nop e = sym (ap (λ (k : Kind). fillAs k base s at b) e)
+
+  pub fill-listed : (x : Entry) (size len : ℕ) (t : List ℕ) → Moves kind base size len → kind ≡ Listed x → t ≡ put b (at + 4) (readFrom (x .source) base size s) → t ≡ fillAs kind base s at b
+  unfolding fillAs
+  fill-listed x size len t m e h =
+      h ∙ ap (λ (n : ℕ). put b (at + 4) (readFrom (x .source) base n s)) (moves-size kind base size len x m e) ∙ sym (ap (λ (k : Kind). fillAs k base s at b) e)
+
+pub length-putAs : (kind : Kind) (base : ℕ) (v s : List ℕ) → length (putAs kind base v s) ≡ length s
+unfolding putAs putFrom
+length-putAs Unlisted base v s = refl
+length-putAs Nop base v s = refl
+length-putAs (Listed x) base v s = go (x .source)
+  where
+    go : (y : Source) → length (putFrom y base v s) ≡ length s
+    go (Fixed n) = refl
+    go (Stored p) = length-put s (base + p) v
+
+pub length-fillAs : (kind : Kind) (base : ℕ) (s : List ℕ) (at : ℕ) (b : List ℕ) → length (fillAs kind base s at b) ≡ length b
+unfolding fillAs
+length-fillAs Unlisted base s at b = refl
+length-fillAs Nop base s at b = refl
+length-fillAs (Listed x) base s at b = length-put b (at + 4) (readFrom (x .source) base (x .size) s)
+
+-- ---- one element, by what was read of it
+module _ (b : List ℕ) (at w : ℕ) (e : w ≡ be b at 4) (z : w ≡ 0) where
+  pub empty-next : at + 4 ≡ nextAt b at
+  empty-next = let p = empty-parts b at w e z in omega (arith, p .1)
+
+  pub empty-stored : (base : ℕ) (v s : List ℕ) → s ≡ putAs (kindOf (idAt b at)) base v s
+  empty-stored base v s = as-nop (kindOf (idAt b at)) base v s (ap kindOf (empty-parts b at w e z .0) ∙ nop)
+
+  pub empty-filled : (base : ℕ) (s : List ℕ) → b ≡ fillAs (kindOf (idAt b at)) base s at b
+  empty-filled base s = fill-nop (kindOf (idAt b at)) base s at b (ap kindOf (empty-parts b at w e z .0) ∙ nop)
+
+module _ (b : List ℕ) (at base len size id : ℕ) (kind : Kind) (i : id ≡ idAt b at) (t : kind ≡ kindOf id) (z : size ≡ sizeAt b at) (r : Ready base b at len) where
+  pub ready-moves : Moves kind base size len
+  ready-moves = subst (λ (k : Kind). Moves k base size len) (sym (t ∙ ap kindOf i)) (subst (λ (n : ℕ). Moves (kindOf (idAt b at)) base n len) (sym z) (r .moves))
+
+  pub ready-inside : at + 4 + size ≤ length b
+  ready-inside = omega (arith, r .inside, z)
+
+  pub stored-element : (s u : List ℕ) → u ≡ putAs kind base (bytesAt b (at + 4) size) s → u ≡ putAs (kindOf (idAt b at)) base (valueAt b at) s
+  stored-element s u h = h ∙ ap₂ (λ (k : Kind) (n : ℕ). putAs k base (bytesAt b (at + 4) n) s) (t ∙ ap kindOf i) z
+
+  pub filled-element : (s u : List ℕ) → u ≡ fillAs kind base s at b → u ≡ fillAs (kindOf (idAt b at)) base s at b
+  filled-element s u h = h ∙ ap (λ (k : Kind). fillAs k base s at b) (t ∙ ap kindOf i)
+
+-- ---- the loop that stores
+pub ready-at : (base : ℕ) (b : List ℕ) (len count i at m : ℕ) → AllReady base b len → count ≡ countOf b → i < count → at ≡ offsetAt b i → m ≡ len → Ready base b at m
+ready-at base b len count i at m a c h e q = subst (λ (x : ℕ). Ready base b x m) (sym e) (subst (Ready base b (offsetAt b i)) (sym q) (a .each i (omega arith)))
+
+module _ (base : ℕ) (b s : List ℕ) where
+  pub apply-start : s ≡ applied base b 0 s
+  unfolding applied
+  apply-start = refl
+
+  pub apply-turn : (i at : ℕ) (t u : List ℕ) → t ≡ applied base b i s → at ≡ offsetAt b i → u ≡ putAs (kindOf (idAt b at)) base (valueAt b at) t → u ≡ applied base b (i + 1) s
+  unfolding applied
+  apply-turn i at t u e o h =
+      h ∙ ap₂ (λ (a : ℕ) (x : List ℕ). putAs (kindOf (idAt b a)) base (valueAt b a) x) o e ∙ ap (λ (n : ℕ). applied base b n s) (sym (add-one i))
+
+  pub apply-end : (i count : ℕ) (t : List ℕ) → t ≡ applied base b i s → count ≡ countOf b → i ≤ count → count ≤ i → t ≡ applied base b (countOf b) s
+  apply-end i count t e c h k = let q : i ≡ countOf b = omega arith in e ∙ ap (λ (n : ℕ). applied base b n s) q
+
+  pub length-applied : (n : ℕ) → length (applied base b n s) ≡ length s
+  unfolding applied
+  length-applied zero = refl
+  length-applied (suc n) = length-putAs (kindOf (idAt b (offsetAt b n))) base (valueAt b (offsetAt b n)) (applied base b n s) ∙ length-applied n
+
+-- where the next element starts, by what was returned
+pub next-turn : (b : List ℕ) (i at r : ℕ) → at ≡ offsetAt b i → r ≡ nextAt b at → r ≡ offsetAt b (i + 1)
+next-turn b i at r e h = h ∙ offset-next b i at e

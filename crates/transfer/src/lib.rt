@@ -1,0 +1,118 @@
+// An accepted guest state buffer's values, moved to and from a guest's or a slot's values, which start at `base` of the store.
+// Apart from the calls, since get, set and run share it.
+use elements::Kind;
+use elements::Source;
+use elements::kind_of;
+use octets::copy;
+use octets::get16;
+use octets::get32;
+use octets::put64;
+ghost use mathlib.Core.Path.{_≡_};
+ghost use Prim.Native.Nat.{_+_, _≤_};
+ghost use lib.ListN.{length};
+ghost use Rattle.octets.specs.Bytes.{bytesAt, put};
+ghost use Rattle.elements.specs.Table.{kindOf};
+ghost use Rattle.gsb.specs.Walk.{countOf, idAt, sizeAt, nextAt};
+ghost use Rattle.transfer.specs.Transfer.{valueAt, putFrom, putAs, applied, readFrom, fillAs, filled, Fits, Moves, Ready, AllReady};
+
+fn put_from(source: Source, store: &mut [u8], base: usize, b: &[u8], from: usize, size: usize)
+    requires { ⌜ Fits source base size (length (now store)) × (from + size ≤ length (now b)) ⌝ }
+    ensures { λ _. ⌜ now (store .exit) ≡ putFrom source base (bytesAt (now (b .entry)) from size) (now (store .entry)) ⌝ }
+{
+    match source {
+        Source::Fixed(_) => {}
+        Source::Stored(position) => copy(b, from, store, base + position, size),
+    }
+}
+
+fn put_as(kind: Kind, store: &mut [u8], base: usize, b: &[u8], from: usize, size: usize)
+    requires { ⌜ Moves kind base size (length (now store)) × (from + size ≤ length (now b)) ⌝ }
+    ensures { λ _. ⌜ now (store .exit) ≡ putAs kind base (bytesAt (now (b .entry)) from size) (now (store .entry)) ⌝ }
+{
+    match kind {
+        Kind::Unlisted => {}
+        Kind::Nop => {}
+        Kind::Listed(x) => {
+            let source = x.source;
+            put_from(source, store, base, b, from, size)
+        }
+    }
+}
+
+// Stores the element at `at`, and returns where the next starts. An empty NOP is told by one read.
+fn store_element(store: &mut [u8], base: usize, b: &[u8], at: usize) -> usize
+    requires { ⌜ Ready base (now b) at (length (now store)) ⌝ }
+    ensures { λ r. ⌜ (r ≡ nextAt (now (b .entry)) at) × (now (store .exit) ≡ putAs (kindOf (idAt (now (b .entry)) at)) base (valueAt (now (b .entry)) at) (now (store .entry))) ⌝ }
+{
+    if get32(b, at) == 0 {
+        return at + 4;
+    }
+    let size = get16(b, at + 2) as usize;
+    put_as(kind_of(get16(b, at)), store, base, b, at + 4, size);
+    at + 4 + size
+}
+
+// The elements of an accepted buffer, stored in order.
+pub fn apply(store: &mut [u8], base: usize, b: &[u8])
+    requires { ⌜ AllReady base (now b) (length (now store)) ⌝ }
+    ensures { λ _. ⌜ now (store .exit) ≡ applied base (now (b .entry)) (countOf (now (b .entry))) (now (store .entry)) ⌝ }
+{
+    let count = get32(b, 0) as usize;
+    let mut at = 4;
+    let mut i = 0;
+    while i < count {
+        at = store_element(store, base, b, at);
+        i += 1;
+    }
+}
+
+fn fill_from(source: Source, store: &[u8], base: usize, b: &mut [u8], to: usize, size: usize)
+    requires { ⌜ Fits source base size (length (now store)) × (to + size ≤ length (now b)) ⌝ }
+    ensures { λ _. ⌜ now (b .exit) ≡ put (now (b .entry)) to (readFrom source base size (now (store .entry))) ⌝ }
+{
+    match source {
+        Source::Fixed(n) => put64(b, to, n),
+        Source::Stored(position) => copy(store, base + position, b, to, size),
+    }
+}
+
+fn fill_as(kind: Kind, store: &[u8], base: usize, b: &mut [u8], at: usize, size: usize)
+    requires { ⌜ Moves kind base size (length (now store)) × (at + 4 + size ≤ length (now b)) ⌝ }
+    ensures { λ _. ⌜ now (b .exit) ≡ fillAs kind base (now (store .entry)) at (now (b .entry)) ⌝ }
+{
+    match kind {
+        Kind::Unlisted => {}
+        Kind::Nop => {}
+        Kind::Listed(x) => {
+            let source = x.source;
+            fill_from(source, store, base, b, at + 4, size)
+        }
+    }
+}
+
+// Fills in the element at `at`, and returns where the next starts.
+fn fill_element(store: &[u8], base: usize, b: &mut [u8], at: usize) -> usize
+    requires { ⌜ Ready base (now b) at (length (now store)) ⌝ }
+    ensures { λ r. ⌜ (r ≡ nextAt (now (b .entry)) at) × (now (b .exit) ≡ fillAs (kindOf (idAt (now (b .entry)) at)) base (now (store .entry)) at (now (b .entry))) ⌝ }
+{
+    if get32(b, at) == 0 {
+        return at + 4;
+    }
+    let size = get16(b, at + 2) as usize;
+    fill_as(kind_of(get16(b, at)), store, base, b, at, size);
+    at + 4 + size
+}
+
+// The values that an accepted buffer asks for, filled in.
+pub fn fill(store: &[u8], base: usize, b: &mut [u8])
+    requires { ⌜ AllReady base (now b) (length (now store)) ⌝ }
+    ensures { λ _. ⌜ now (b .exit) ≡ filled base (now (store .entry)) (now (b .entry)) (countOf (now (b .entry))) ⌝ }
+{
+    let count = get32(b, 0) as usize;
+    let mut at = 4;
+    let mut i = 0;
+    while i < count {
+        at = fill_element(store, base, b, at);
+        i += 1;
+    }
+}
