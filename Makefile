@@ -3,7 +3,7 @@ CC = cc
 CFLAGS = -std=c11 -Wall -Wextra -Wpedantic -O2
 archive = target/staticlib/libadderknot.a
 
-.PHONY: all run listing test tools clean
+.PHONY: all run speed listing test tools clean
 
 all: tools
 	rt staticlib adderknot
@@ -17,6 +17,10 @@ target/bench/compare: all bench/compare.c bench/model.c bench/model.h include/ad
 	mkdir -p target/bench
 	$(CC) $(CFLAGS) -Iinclude bench/compare.c bench/model.c $(archive) -o $@
 
+target/bench/speed: all bench/speed.c bench/model.c bench/model.h include/adderknot.h
+	mkdir -p target/bench
+	$(CC) $(CFLAGS) -Iinclude bench/speed.c bench/model.c $(archive) -o $@
+
 # The example of README.md, as it stands there.
 target/bench/example: all README.md include/adderknot.h
 	mkdir -p target/bench
@@ -25,6 +29,10 @@ target/bench/example: all README.md include/adderknot.h
 
 run: target/bench/compare
 	target/bench/compare
+
+# Times of the library against the model.
+speed: target/bench/speed
+	target/bench/speed
 
 listing:
 	rt check listing

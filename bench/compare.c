@@ -10,7 +10,9 @@
  *     agreement   r3, r4, r5, the place of a value found, and all lent bytes are the same
  *     unchanged   a refusal changed no lent byte, and no call changed what it may only read
  *     guards      no byte beside lent memory changed
- *     coverage    each call gave each answer that it can give, 2 with each unsupported bit as r4, and no other
+ *     coverage    each call gave each answer that it can give, 2 with each unsupported bit as r4, and no other; each
+ *                 element was read and set where its access permits and refused where not; each edge of a value rule
+ *                 and of a buffer's length was met
  *
  * The run ends at the first difference. To add a call: its numbers' makers, a line MAKE, and a row of KINDS.
  */
@@ -148,6 +150,8 @@ struct kind {
     uint64_t supported;     /* the flag bits that it supports */
     void (*choose)(struct call *c);
     make_call *library, *model;
+    unsigned access; /* of get and set state: what they ask of an element, R or W, and its scope */
+    bool wide;
 };
 
 static adk_found plain(adk_answer a)
@@ -176,6 +180,8 @@ MAKE(plain, get_capabilities, m[STORE], c->len[STORE], c->n[0])
 MAKE(plain, set_capabilities, m[STORE], c->len[STORE], c->n[0], c->n[1])
 MAKE(plain, create_guest, m[STORE], c->len[STORE], c->n[0], c->n[1])
 MAKE(plain, create_vcpu, m[STORE], c->len[STORE], c->n[0], c->n[1], c->n[2])
+MAKE(plain, get_state, m[STORE], c->len[STORE], c->n[0], c->n[1], c->n[2], m[BUFFER], c->len[BUFFER])
+MAKE(plain, set_state, m[STORE], c->len[STORE], c->n[0], c->n[1], c->n[2], m[BUFFER], c->len[BUFFER])
 MAKE(plain, delete_guest, m[STORE], c->len[STORE], c->n[0], c->n[1])
 MAKE(plain, guest_clock, m[STORE], c->len[STORE], c->n[0], c->n[1])
 MAKE(as_is, lookup, m[BUFFER], c->len[BUFFER], (uint16_t)c->n[0])
@@ -201,15 +207,21 @@ static uint64_t alias(uint64_t n, unsigned place)
     return n + (UINT64_C(1) << (place + below(64 - place)));
 }
 
-static unsigned load16(const uint8_t *p)
+/* Numbers of n bytes, most significant first. */
+static uint64_t load(const uint8_t *p, int n)
 {
-    return (unsigned)p[0] << 8 | p[1];
+    uint64_t v = 0;
+    for (int i = 0; i < n; i++)
+        v = v << 8 | p[i];
+    return v;
 }
 
-static void store16(uint8_t *p, unsigned v)
+static void store_number(uint8_t *p, int n, uint64_t v)
 {
-    p[0] = (uint8_t)(v >> 8);
-    p[1] = (uint8_t)v;
+    while (n-- > 0) {
+        p[n] = (uint8_t)v;
+        v >>= 8;
+    }
 }
 
 /* Positions in the store, for choosing numbers and doing damage. */
@@ -217,7 +229,7 @@ enum { LIVE = 8, ZERO = 9, WORDS = 10, HEADER = 42, GUEST_SIZE = 52, TB_OFFSET =
 
 static unsigned slot_word(unsigned slot)
 {
-    return load16(memory[BEFORE][STORE] + WORDS + 2 * slot);
+    return (unsigned)load(memory[BEFORE][STORE] + WORDS + 2 * slot, 2);
 }
 
 /* A used slot word, or 0 where chance finds none. */
@@ -371,10 +383,7 @@ static uint64_t any_timebase(uint64_t guest)
 {
     if (guest < 1 || guest > ADK_GUESTS || percent(40))
         return any_number();
-    const uint8_t *p = memory[BEFORE][STORE] + HEADER + GUEST_SIZE * (guest - 1) + TB_OFFSET;
-    uint64_t offset = 0;
-    for (int i = 0; i < 8; i++)
-        offset = offset << 8 | p[i];
+    uint64_t offset = load(memory[BEFORE][STORE] + HEADER + GUEST_SIZE * (guest - 1) + TB_OFFSET, 8);
     return percent(50) ? 1 - offset - below(3) : offset;
 }
 
@@ -385,25 +394,133 @@ static void choose_guest_clock(struct call *c)
     c->n[1] = any_timebase(c->n[0]);
 }
 
-/* ---- Guest state buffers for the lookup ---- */
+/* ---- Elements ---- */
 
-/* First and last of each run of listed IDs, the NOP too. */
-static const unsigned LISTED[][2] = {
-    { 0x0000, 0x0006 }, { 0x0C00, 0x0C02 }, { 0x1000, 0x1053 }, { 0x2000, 0x200E }, { 0x3000, 0x303F },
-    { 0xF000, 0xF003 }
+enum { R = 1, W = 2, RW = R | W };
+
+/* The list of adderknot.h apart from the NOP, in runs of equal elements. */
+static const struct row {
+    unsigned first, last, size, access;
+    bool wide;
+} ROWS[] = {
+    { 0x0001, 0x0002, 8, R, true },
+    { 0x0003, 0x0003, 4, RW, true },
+    { 0x0004, 0x0004, 8, RW, true },
+    { 0x0005, 0x0005, 24, RW, true },
+    { 0x0006, 0x0006, 16, RW, true },
+    { 0x0C00, 0x0C01, 16, RW, false },
+    { 0x0C02, 0x0C02, 8, RW, false },
+    { 0x1000, 0x1039, 8, RW, false },
+    { 0x103A, 0x103A, 8, W, false },
+    { 0x103B, 0x1053, 8, RW, false },
+    { 0x2000, 0x200E, 4, RW, false },
+    { 0x3000, 0x303F, 16, RW, false },
+    { 0xF000, 0xF000, 8, R, false },
+    { 0xF001, 0xF002, 4, R, false },
+    { 0xF003, 0xF003, 8, R, false },
 };
+
+static unsigned any_of(const struct row *row)
+{
+    return row->first + below(row->last - row->first + 1);
+}
+
+/* The row of an ID, or NULL. */
+static const struct row *row_of(unsigned id)
+{
+    for (size_t i = 0; i < COUNT(ROWS); i++)
+        if (id >= ROWS[i].first && id <= ROWS[i].last)
+            return &ROWS[i];
+    return NULL;
+}
 
 static unsigned any_id(void)
 {
-    const unsigned *run = LISTED[below(COUNT(LISTED))];
+    const struct row *row = &ROWS[below(COUNT(ROWS))];
     switch (below(8)) {
-    case 0: return 0;
-    case 1: return (run[0] - 1) & 0xFFFF;
-    case 2: return run[1] + 1;
+    case 0: return ADK_GSID_NOP;
+    case 1: return row->first - 1;
+    case 2: return row->last + 1;
     case 3: return below(0x10000);
-    default: return run[0] + below(run[1] - run[0] + 1);
+    default: return any_of(row);
     }
 }
+
+#define ANY UINT64_MAX
+
+/* Values around each value rule: a logical PVR, or the size of a run buffer. */
+static const struct edge {
+    unsigned id;
+    uint64_t agreed; /* with these capabilities agreed, or ANY */
+    uint64_t value;
+    bool good;
+} VALUE_EDGES[] = {
+    { 0x0003, 0, 0x0F000005, false },
+    { 0x0003, 0, 0x0F000006, false },
+    { 0x0003, ADK_CAP_POWER9, 0x0F000005, true },
+    { 0x0003, ADK_CAP_POWER9, 0x0F000006, false },
+    { 0x0003, ADK_CAP_POWER10, 0x0F000005, false },
+    { 0x0003, ADK_CAP_POWER10, 0x0F000006, true },
+    { 0x0003, ADK_CAP_POWER9 | ADK_CAP_POWER10, 0x0F000005, true },
+    { 0x0003, ADK_CAP_POWER9 | ADK_CAP_POWER10, 0x0F000006, true },
+    { 0x0003, ANY, 0, false },
+    { 0x0003, ANY, 0x0F000004, false },
+    { 0x0003, ANY, 0x0F000007, false },
+    { 0x0003, ANY, 0x0500000F, false },
+    { 0x0003, ANY, 0xFFFFFFFF, false },
+    { 0x0C00, ANY, 0, false },
+    { 0x0C00, ANY, 3, false },
+    { 0x0C00, ANY, 4, true },
+    { 0x0C00, ANY, 65536, true },
+    { 0x0C00, ANY, 65537, false },
+    { 0x0C00, ANY, 0x0000000100000004, false },
+    { 0x0C00, ANY, 0x8000000000000000, false },
+    { 0x0C00, ANY, 0x8000000000000004, false },
+    { 0x0C00, ANY, 0xFFFFFFFFFFFFFFFF, false },
+    { 0x0C01, ANY, 4, false },
+    { 0x0C01, ANY, 123, false },
+    { 0x0C01, ANY, 124, true },
+    { 0x0C01, ANY, 65536, true },
+    { 0x0C01, ANY, 65537, false },
+    { 0x0C01, ANY, 0x000000010000007C, false },
+    { 0x0C01, ANY, 0x8000000000000000, false },
+    { 0x0C01, ANY, 0x800000000000007C, false },
+    { 0x0C01, ANY, 0xFFFFFFFFFFFFFFFF, false },
+};
+
+static uint64_t agreed(void)
+{
+    return load(memory[BEFORE][STORE], 8);
+}
+
+/* The number in a value that a rule judges. */
+static uint64_t ruled_number(const uint8_t *value, unsigned id)
+{
+    return id == 0x0003 ? load(value, 4) : load(value + 8, 8);
+}
+
+static bool at_edge(const struct edge *e, unsigned id)
+{
+    return e->id == id && (e->agreed == ANY || e->agreed == agreed());
+}
+
+/* Puts an edge into a value that a rule judges, a good one if it is to be good. Each has the same chance. */
+static void put_edge(uint8_t *value, unsigned id, bool good)
+{
+    const struct edge *chosen = NULL;
+    unsigned n = 0;
+    for (size_t i = 0; i < COUNT(VALUE_EDGES); i++)
+        if (at_edge(&VALUE_EDGES[i], id) && (VALUE_EDGES[i].good || !good) && below(++n) == 0)
+            chosen = &VALUE_EDGES[i];
+    if (chosen == NULL)
+        return;
+    if (id == 0x0003)
+        store_number(value, 4, chosen->value);
+    else
+        store_number(value + 8, 8, chosen->value);
+}
+
+/* ---- Guest state buffers ---- */
 
 static unsigned any_size(void)
 {
@@ -424,12 +541,12 @@ struct build {
     size_t len, high;
     uint32_t count;
     unsigned id[3];
+    const struct kind *kind;
 };
 
 static void put_count(struct build *g)
 {
-    store16(g->b, g->count >> 16);
-    store16(g->b + 2, g->count & 0xFFFF);
+    store_number(g->b, 4, g->count);
 }
 
 /* Adds an element if it fits; the value keeps old bytes past the first 32. */
@@ -437,8 +554,8 @@ static void add_element(struct build *g, unsigned id, unsigned size)
 {
     if (g->len + 4 + size > ADK_BUFFER_MAX)
         return;
-    store16(g->b + g->len, id);
-    store16(g->b + g->len + 2, size);
+    store_number(g->b + g->len, 2, id);
+    store_number(g->b + g->len + 2, 2, size);
     any_bytes(g->b + g->len + 4, size < 32 ? size : 32);
     g->len += 4 + size;
     g->count++;
@@ -454,14 +571,20 @@ static void build_elements(struct build *g, unsigned n)
     put_count(g);
 }
 
-/* Exactly the greatest length, by a last element that fills it. */
+/* Makes the buffer as long as it may be, by a last element that fills it. */
+static void fill_up(struct build *g, unsigned id)
+{
+    size_t room = ADK_BUFFER_MAX - g->len;
+    if (room >= 4)
+        add_element(g, id, (unsigned)room - 4);
+    g->len = ADK_BUFFER_MAX;
+    put_count(g);
+}
+
 static void build_longest(struct build *g)
 {
     build_elements(g, below(20));
-    size_t room = ADK_BUFFER_MAX - g->len;
-    if (room >= 4)
-        add_element(g, g->id[0], (unsigned)room - 4);
-    put_count(g);
+    fill_up(g, g->id[0]);
 }
 
 /* The most elements that fit, or one or two more: the NOP without a value, 16,383 times. */
@@ -512,6 +635,18 @@ static void spoil(struct build *g)
     }
 }
 
+/* Short ones, and those around the greatest length. */
+static void build_any_bytes(struct build *g)
+{
+    unsigned style = below(21);
+    if (style < 11)
+        build_bytes(g, below(9));
+    else if (style < 19)
+        build_bytes(g, below(100));
+    else
+        build_bytes(g, percent(70) ? ADK_BUFFER_MAX - 1 + below(4) : ADK_BUFFER_MAX + below(4097));
+}
+
 static void build_buffer(struct build *g)
 {
     unsigned style = below(100);
@@ -523,28 +658,183 @@ static void build_buffer(struct build *g)
         build_longest(g);
     else if (style < 79)
         build_most(g);
-    else if (style < 90)
-        build_bytes(g, below(9));
-    else if (style < 98)
-        build_bytes(g, below(100));
     else
-        build_bytes(g, percent(70) ? ADK_BUFFER_MAX - 1 + below(4) : ADK_BUFFER_MAX + below(4097));
+        build_any_bytes(g);
     g->high = g->len;
     if (style < 79 && percent(40))
         spoil(g);
-    if (g->high < g->len)
-        g->high = g->len;
+}
+
+/* Lends what was built. */
+static void lend_buffer(struct call *c, const struct build *g)
+{
+    share(BUFFER, 0, g->high < g->len ? g->len : g->high);
+    c->len[BUFFER] = g->len;
 }
 
 static void choose_lookup(struct call *c)
 {
-    struct build g = { memory[BEFORE][BUFFER], 0, 0, 0, { 0 } };
+    struct build g = { .b = memory[BEFORE][BUFFER] };
     for (size_t i = 0; i < COUNT(g.id); i++)
         g.id[i] = any_id();
     build_buffer(&g);
-    share(BUFFER, 0, g.high);
-    c->len[BUFFER] = g.len;
+    lend_buffer(c, &g);
     c->n[0] = percent(75) ? g.id[below(COUNT(g.id))] : any_id();
+}
+
+/* ---- Guest state buffers for get and set state ---- */
+
+static bool takes(const struct kind *k, const struct row *row)
+{
+    return row->wide == k->wide && (row->access & k->access) != 0;
+}
+
+/* Whether the call can take these elements now: while no capability is agreed, no logical PVR can be set. */
+static bool takes_now(const struct build *g, const struct row *row)
+{
+    return takes(g->kind, row) && (row->first != 0x0003 || g->kind->access == R || agreed() != 0);
+}
+
+static unsigned taken_id(const struct build *g)
+{
+    for (;;) {
+        const struct row *row = &ROWS[below(COUNT(ROWS))];
+        if (takes_now(g, row))
+            return any_of(row);
+    }
+}
+
+/* Adds an element of this size; where a rule judges its value, an edge of the rule. */
+static void add_value(struct build *g, unsigned id, unsigned size, bool good)
+{
+    uint8_t *value = g->b + g->len + 4;
+    uint32_t before = g->count;
+    add_element(g, id, size);
+    if (g->count != before && (id == 0x0003 ? size >= 4 : (id == 0x0C00 || id == 0x0C01) && size >= 16))
+        put_edge(value, id, good);
+}
+
+/* An element that the call takes, of the listed size and with a good value. */
+static void add_good(struct build *g, unsigned id)
+{
+    add_value(g, id, row_of(id)->size, true);
+}
+
+/* One that the call takes if its value is good: so often enough a bad one is met. */
+static unsigned ruled_id(const struct build *g)
+{
+    return g->kind->wide ? 0x0003 : 0x0C00 + below(2);
+}
+
+/* An element of which the ID, the size, the value, or several of them are left to chance. */
+static void add_odd(struct build *g)
+{
+    unsigned odd = 1 + below(7);
+    unsigned id = odd & 1 ? any_id() : odd & 4 ? ruled_id(g) : taken_id(g);
+    const struct row *row = row_of(id);
+    unsigned size = odd & 2 || row == NULL ? any_size() : row->size;
+    add_value(g, id, size, !(odd & 4));
+}
+
+/* n elements, of each hundred so many odd ones; the others are good, NOPs and repeated IDs among them. */
+static void build_mixed(struct build *g, unsigned n, unsigned odd)
+{
+    g->len = 4;
+    for (unsigned i = 0; i < n; i++)
+        if (percent(odd))
+            add_odd(g);
+        else if (percent(12))
+            add_element(g, ADK_GSID_NOP, any_size());
+        else
+            add_good(g, percent(30) ? g->id[below(COUNT(g->id))] : taken_id(g));
+    put_count(g);
+}
+
+/* All elements that the call takes, the first one anywhere. */
+static void build_all(struct build *g)
+{
+    unsigned first = below(COUNT(ROWS));
+    g->len = 4;
+    for (size_t i = 0; i < COUNT(ROWS); i++) {
+        const struct row *row = &ROWS[(first + i) % COUNT(ROWS)];
+        for (unsigned id = row->first; takes_now(g, row) && id <= row->last; id++)
+            add_good(g, id);
+    }
+    put_count(g);
+}
+
+/* The greatest length, with as many elements as there is room for. */
+static void build_full(struct build *g)
+{
+    build_all(g);
+    while (g->len + 4 + 24 <= ADK_BUFFER_MAX)
+        add_good(g, taken_id(g));
+    fill_up(g, ADK_GSID_NOP);
+}
+
+static void build_state(struct build *g)
+{
+    unsigned style = below(200);
+    if (style < 50)
+        build_mixed(g, 1, percent(40) ? 100 : 0);
+    else if (style < 100)
+        build_mixed(g, 2 + below(8), 0);
+    else if (style < 130)
+        build_mixed(g, 1 + below(8), 30);
+    else if (style < 150)
+        build_mixed(g, below(120), style % 3);
+    else if (style < 164)
+        build_all(g);
+    else if (style < 165)
+        build_full(g);
+    else if (style < 166)
+        build_most(g);
+    else
+        build_any_bytes(g);
+    g->high = g->len;
+    if (style < 166 && percent(20))
+        spoil(g);
+}
+
+/* A vCPU that is there, or numbers close to one. */
+static void choose_vcpu(struct call *c)
+{
+    unsigned w = used_word();
+    if (w == 0 || percent(12)) {
+        c->n[1] = any_guest();
+        c->n[2] = any_vcpu();
+        return;
+    }
+    c->n[1] = w >> 11 & 15;
+    c->n[2] = w & 2047;
+    if (percent(3))
+        c->n[1] = alias(c->n[1], 4);
+    if (percent(3))
+        c->n[2] = alias(c->n[2], 11);
+}
+
+/* Of one target, with a new buffer or as the last such call was given and left it: so a get reads what a set has just
+   set, and a set puts back what a get has read. */
+static void choose_state(struct call *c)
+{
+    static struct call last;
+    lend_store(c);
+    if (percent(12)) {
+        *c = (struct call){ c->kind, { c->len[STORE], last.len[BUFFER] }, { 0, last.n[1], last.n[2] } };
+    } else {
+        struct build g = { .b = memory[BEFORE][BUFFER], .kind = c->kind };
+        for (size_t i = 0; i < COUNT(g.id); i++)
+            g.id[i] = taken_id(&g);
+        build_state(&g);
+        lend_buffer(c, &g);
+        choose_vcpu(c);
+        if (c->kind->wide && percent(50))
+            c->n[2] = any_number();
+    }
+    c->n[0] = any_flags(0) & ~ADK_GUEST_WIDE;
+    if (c->kind->wide)
+        c->n[0] |= ADK_GUEST_WIDE;
+    last = *c;
 }
 
 /* ---- Damage to a store ---- */
@@ -556,7 +846,7 @@ static unsigned word_of(uint64_t guest, unsigned vcpu)
 
 static void put_word(uint8_t *h, unsigned slot, unsigned w)
 {
-    store16(h + WORDS + 2 * slot, w);
+    store_number(h + WORDS + 2 * slot, 2, w);
 }
 
 /* A word of this guest in any slot. */
@@ -596,7 +886,7 @@ static void full_house(uint8_t *h)
     for (unsigned i = 0; i < ADK_SLOTS; i++)
         put_word(h, i, word_of(1 + below(ADK_GUESTS), (first + i) % 2048));
     if (percent(60)) {
-        unsigned w = load16(h + WORDS + 2 * below(ADK_SLOTS));
+        unsigned w = (unsigned)load(h + WORDS + 2 * below(ADK_SLOTS), 2);
         put_word(h, below(ADK_SLOTS), w);
     }
 }
@@ -666,9 +956,7 @@ static void stir_values(void)
 static void set_tb_offset(void)
 {
     size_t at = HEADER + GUEST_SIZE * below(ADK_GUESTS) + TB_OFFSET;
-    uint64_t offset = any_number();
-    for (int i = 0; i < 8; i++)
-        memory[BEFORE][STORE][at + i] = (uint8_t)(offset >> (56 - 8 * i));
+    store_number(memory[BEFORE][STORE] + at, 8, any_number());
     share(STORE, at, 8);
 }
 
@@ -676,23 +964,37 @@ static void set_tb_offset(void)
 
 #define A(n) (1u << (n))
 
+/* Get and set state have a row for each scope, so that the answers of each are counted. */
 static const struct kind KINDS[] = {
     { "fresh_store", { NULL }, { WRITTEN, NOT_LENT }, { 2, 2, 2 }, A(0) | A(1), 0, choose_fresh_store,
-      library_fresh_store, model_fresh_store },
-    { "get_capabilities", { "flags" }, { READ, NOT_LENT }, { 8, 8, 8 }, A(0) | A(1) | A(2), 0, choose_get_capabilities,
-      library_get_capabilities, model_get_capabilities },
+      library_fresh_store, model_fresh_store, 0, false },
+    { "get_capabilities", { "flags" }, { READ, NOT_LENT }, { 16, 16, 16 }, A(0) | A(1) | A(2), 0,
+      choose_get_capabilities, library_get_capabilities, model_get_capabilities, 0, false },
     { "set_capabilities", { "flags", "bitmap" }, { WRITTEN, NOT_LENT }, { 12, 12, 12 }, A(0) | A(1) | A(2) | A(3), 0,
-      choose_set_capabilities, library_set_capabilities, model_set_capabilities },
+      choose_set_capabilities, library_set_capabilities, model_set_capabilities, 0, false },
     { "create_guest", { "flags", "token" }, { WRITTEN, NOT_LENT }, { 30, 20, 8 }, A(0) | A(1) | A(2) | A(3) | A(9), 0,
-      choose_create_guest, library_create_guest, model_create_guest },
+      choose_create_guest, library_create_guest, model_create_guest, 0, false },
     { "create_vcpu", { "flags", "guest", "vcpu" }, { WRITTEN, NOT_LENT }, { 60, 40, 15 },
-      A(0) | A(1) | A(2) | A(3) | A(4) | A(10) | A(9), 0, choose_create_vcpu, library_create_vcpu, model_create_vcpu },
+      A(0) | A(1) | A(2) | A(3) | A(4) | A(10) | A(9), 0, choose_create_vcpu, library_create_vcpu, model_create_vcpu,
+      0, false },
+    { "get_state, thread", { "flags", "guest", "vcpu" }, { READ, WRITTEN }, { 50, 60, 20 },
+      A(0) | A(1) | A(2) | A(3) | A(4) | A(5) | A(6) | A(7), ADK_GUEST_WIDE, choose_state, library_get_state,
+      model_get_state, R, false },
+    { "get_state, wide", { "flags", "guest", "vcpu" }, { READ, WRITTEN }, { 25, 30, 15 },
+      A(0) | A(1) | A(2) | A(3) | A(5) | A(6) | A(7), ADK_GUEST_WIDE, choose_state, library_get_state,
+      model_get_state, R, true },
+    { "set_state, thread", { "flags", "guest", "vcpu" }, { WRITTEN, READ }, { 70, 90, 30 },
+      A(0) | A(1) | A(2) | A(3) | A(4) | A(5) | A(6) | A(7) | A(8), ADK_GUEST_WIDE, choose_state, library_set_state,
+      model_set_state, W, false },
+    { "set_state, wide", { "flags", "guest", "vcpu" }, { WRITTEN, READ }, { 40, 50, 25 },
+      A(0) | A(1) | A(2) | A(3) | A(5) | A(6) | A(7) | A(8), ADK_GUEST_WIDE, choose_state, library_set_state,
+      model_set_state, W, true },
     { "delete_guest", { "flags", "guest" }, { WRITTEN, NOT_LENT }, { 3, 15, 40 }, A(0) | A(1) | A(2) | A(3),
-      ADK_DELETE_ALL, choose_delete_guest, library_delete_guest, model_delete_guest },
+      ADK_DELETE_ALL, choose_delete_guest, library_delete_guest, model_delete_guest, 0, false },
     { "guest_clock", { "guest", "timebase" }, { READ, NOT_LENT }, { 15, 15, 15 }, A(0) | A(1) | A(3), 0,
-      choose_guest_clock, library_guest_clock, model_guest_clock },
+      choose_guest_clock, library_guest_clock, model_guest_clock, 0, false },
     { "lookup", { "id" }, { NOT_LENT, READ }, { 50, 50, 50 }, A(0) | A(5) | A(6) | A(7), 0, choose_lookup,
-      library_lookup, model_lookup },
+      library_lookup, model_lookup, 0, false },
 };
 
 static const struct kind *any_kind(unsigned mood)
@@ -711,8 +1013,14 @@ struct run {
     uint64_t seed, calls, number;
     bool quiet;
     uint64_t tally[COUNT(KINDS)][ANSWERS];
-    uint64_t bad_bits[COUNT(KINDS)]; /* the bits told as r4 of answer 2 */
+    uint64_t bad_bits[COUNT(KINDS)];         /* the bits told as r4 of answer 2 */
+    uint32_t lengths[COUNT(KINDS)];          /* which of LENGTHS a buffer had that was judged */
+    bool used[RW][0x10000];                  /* for R and for W, the IDs that were read or set */
+    bool refused[COUNT(KINDS)][COUNT(ROWS)]; /* the rows of which an ID was refused */
+    bool edges[COUNT(VALUE_EDGES)];          /* those that were judged as their row says */
 };
+
+static const size_t LENGTHS[] = { 0, 1, 2, 3, 4, 5, 6, 7, 8, ADK_BUFFER_MAX - 1, ADK_BUFFER_MAX, ADK_BUFFER_MAX + 1 };
 
 /* The bytes of a piece that are compared: what was lent and, of a store lent too short, the rest. */
 static size_t extent(const struct call *c, enum piece p)
@@ -772,7 +1080,7 @@ static void print_call(const struct call *c)
     printf(")\n");
     for (int p = 0; p < PIECES; p++)
         if (c->kind->use[p] != NOT_LENT)
-            print_hex(PIECE_NAME[p], memory[BEFORE][p], p == STORE ? HEADER : c->len[p]);
+            print_hex(PIECE_NAME[p], memory[BEFORE][p], p == STORE ? HEADER : c->len[p] < 512 ? c->len[p] : 512);
 }
 
 static void print_answer(const char *who, const adk_found *f)
@@ -813,6 +1121,63 @@ static int report(const struct run *r, const char *name, const struct call *c, c
     return 1;
 }
 
+/* What a call did is noted for the coverage. The element is one that was set, or whose value was refused. */
+static void note_edge(struct run *r, const uint8_t *element, bool good)
+{
+    unsigned id = (unsigned)load(element, 2);
+    for (size_t i = 0; i < COUNT(VALUE_EDGES); i++) {
+        const struct edge *e = &VALUE_EDGES[i];
+        if (at_edge(e, id) && e->good == good && e->value == ruled_number(element + 4, id))
+            r->edges[i] = true;
+    }
+}
+
+static const uint8_t *next_element(const uint8_t *element)
+{
+    return element + 4 + load(element + 2, 2);
+}
+
+static void note_accepted(struct run *r, unsigned access)
+{
+    const uint8_t *b = memory[BEFORE][BUFFER], *element = b + 4;
+    for (uint64_t left = load(b, 4); left > 0; left--, element = next_element(element)) {
+        r->used[access][load(element, 2)] = true;
+        if (access == W)
+            note_edge(r, element, true);
+    }
+}
+
+/* The elements before the bad one are good, so they can be walked. */
+static void note_bad(struct run *r, size_t k, const adk_found *f)
+{
+    const uint8_t *element = memory[BEFORE][BUFFER] + 4;
+    for (uint64_t i = 0; i < f->r4; i++)
+        element = next_element(element);
+    const struct row *row = row_of((unsigned)load(element, 2));
+    if (f->r3 == ADK_INVALID_ELEMENT_VALUE)
+        note_edge(r, element, false);
+    else if (row != NULL)
+        r->refused[k][row - ROWS] = true;
+}
+
+static void note(struct run *r, const struct call *c, const adk_found *f)
+{
+    size_t k = (size_t)(c->kind - KINDS);
+    r->tally[k][f->r3]++;
+    if (f->r3 == ADK_BAD_FLAG)
+        r->bad_bits[k] |= ADK_BIT(f->r4 & 63);
+    if (f->r3 == ADK_OK || f->r3 >= ADK_BAD_LENGTH)
+        for (size_t i = 0; i < COUNT(LENGTHS); i++)
+            if (c->len[BUFFER] == LENGTHS[i])
+                r->lengths[k] |= A(i);
+    if (c->kind->access == 0)
+        return;
+    if (f->r3 == ADK_OK)
+        note_accepted(r, c->kind->access);
+    else if (f->r3 == ADK_INVALID_ELEMENT_ID || f->r3 == ADK_INVALID_ELEMENT_VALUE)
+        note_bad(r, k, f);
+}
+
 /* One call on both sides; 0 if nothing differs. */
 static int compare_call(struct run *r, const struct call *c)
 {
@@ -827,9 +1192,7 @@ static int compare_call(struct run *r, const struct call *c)
     }
     if (lib.r3 >= ANSWERS || !(c->kind->answers & A(lib.r3)))
         return report(r, "coverage", c, &lib, &mdl);
-    r->tally[c->kind - KINDS][lib.r3]++;
-    if (lib.r3 == ADK_BAD_FLAG)
-        r->bad_bits[c->kind - KINDS] |= ADK_BIT(lib.r4 & 63);
+    note(r, c, &lib);
     return 0;
 }
 
@@ -869,12 +1232,12 @@ static int highest_answer(void)
 static void print_tally(const struct run *r)
 {
     int highest = highest_answer();
-    printf("%-17s", "answer");
+    printf("%-18s", "answer");
     for (int a = 0; a <= highest; a++)
         printf("%9d", a);
     printf("\n");
     for (size_t k = 0; k < COUNT(KINDS); k++) {
-        printf("%-17s", KINDS[k].name);
+        printf("%-18s", KINDS[k].name);
         for (int a = 0; a <= highest; a++)
             if (KINDS[k].answers & A(a))
                 printf("%9" PRIu64, r->tally[k][a]);
@@ -898,6 +1261,53 @@ static bool covered(const struct run *r, size_t k)
         printf("  %s never gave 2 with r4 the number of a bit of 0x%016" PRIX64 "\n", KINDS[k].name, bits);
         all = false;
     }
+    for (size_t i = 0; i < COUNT(LENGTHS); i++)
+        if (KINDS[k].use[BUFFER] != NOT_LENT && !(r->lengths[k] & A(i))) {
+            printf("  %s never judged a buffer of %zu bytes\n", KINDS[k].name, LENGTHS[i]);
+            all = false;
+        }
+    return all;
+}
+
+/* Whether each element, the NOP too, was read and set where its access permits. */
+static bool elements_covered(const struct run *r)
+{
+    bool all = r->used[R][ADK_GSID_NOP] && r->used[W][ADK_GSID_NOP];
+    if (!all)
+        printf("  get_state or set_state never accepted the NOP\n");
+    for (unsigned access = R; access <= W; access++)
+        for (size_t i = 0; i < COUNT(ROWS); i++)
+            for (unsigned id = ROWS[i].first; id <= ROWS[i].last; id++)
+                if (ROWS[i].access & access && !r->used[access][id]) {
+                    printf("  %s 0x%04X\n", access == R ? "get_state never read" : "set_state never set", id);
+                    all = false;
+                }
+    return all;
+}
+
+/* Whether get and set state refused each row that is of the wrong scope or not permitted. */
+static bool refusals_covered(const struct run *r)
+{
+    bool all = true;
+    for (size_t k = 0; k < COUNT(KINDS); k++)
+        for (size_t i = 0; i < COUNT(ROWS); i++)
+            if (KINDS[k].access != 0 && !takes(&KINDS[k], &ROWS[i]) && !r->refused[k][i]) {
+                printf("  %s never refused 0x%04X to 0x%04X\n", KINDS[k].name, ROWS[i].first, ROWS[i].last);
+                all = false;
+            }
+    return all;
+}
+
+static bool edges_covered(const struct run *r)
+{
+    bool all = true;
+    for (size_t i = 0; i < COUNT(VALUE_EDGES); i++)
+        if (!r->edges[i]) {
+            const struct edge *e = &VALUE_EDGES[i];
+            printf("  0x%04X was never %s with 0x%" PRIX64 " (capabilities 0x%" PRIX64 ")\n", e->id,
+                   e->good ? "set" : "refused", e->value, e->agreed);
+            all = false;
+        }
     return all;
 }
 
@@ -909,6 +1319,9 @@ static int finish(const struct run *r)
     bool all = true;
     for (size_t k = 0; k < COUNT(KINDS); k++)
         all = covered(r, k) && all;
+    all = elements_covered(r) && all;
+    all = refusals_covered(r) && all;
+    all = edges_covered(r) && all;
     printf("%s compare coverage\n", all ? "passed" : "failed");
     return all ? 0 : 1;
 }

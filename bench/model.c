@@ -30,7 +30,8 @@ enum { USED = 0x8000, GUEST_SHIFT = 11, GUEST_MASK = 15 };
 /* "The store": offered are bits 1 and 2, 0x6000000000000000. */
 static const uint64_t OFFERED = UINT64_C(0x6000000000000000);
 
-/* "Answers", flag bits: delete supports bit 0, the most significant; the other calls here support none. */
+/* "Answers", flag bits: bit 0, the most significant, is guest-wide in get and set state and all guests in delete; the
+   other calls here support none. */
 static const uint64_t BIT_0 = UINT64_C(0x8000000000000000);
 
 /* "The store" and "The guest state buffer": numbers have their most significant byte first. */
@@ -208,6 +209,213 @@ adk_answer mdl_create_vcpu(uint8_t *store, size_t store_len, uint64_t flags, uin
     store16(store + WORDS + 2 * slot, w);
     memset(store + SLOT_VALUES + SLOT_SIZE * slot, 0, SLOT_SIZE);
     return answer(0, 0);
+}
+
+/*
+ * "The guest state buffer", the list: R and W in each scope, as bits of one number. A call asks for one of them, since
+ * get needs R or RW, set needs W or RW, and the scope must be the call's. An ID with none is unlisted.
+ */
+enum {
+    GUEST_R = 1,
+    GUEST_W = 2,
+    THREAD_R = 4,
+    THREAD_W = 8,
+    GUEST_RW = GUEST_R | GUEST_W,
+    THREAD_RW = THREAD_R | THREAD_W
+};
+
+/* The elements that are more than a row of the list. */
+enum {
+    NOP = 0x0000,
+    VCPU_STATE_SIZE = 0x0001,
+    RUN_OUTPUT_SIZE = 0x0002,
+    LOGICAL_PVR = 0x0003,
+    RUN_INPUT = 0x0C00,
+    RUN_OUTPUT = 0x0C01,
+    PPR = 0x103A
+};
+
+struct element {
+    unsigned access;
+    unsigned size;
+    unsigned at; /* "The store": its place in the 52 bytes of a guest or the 1,820 of a slot */
+};
+
+static inline struct element element(unsigned id)
+{
+    if (id >= 0x1000 && id <= 0x1053)
+        return (struct element){ id == PPR ? THREAD_W : THREAD_RW, 8, 40 + 8 * (id - 0x1000) };
+    if (id >= 0x3000 && id <= 0x303F)
+        return (struct element){ THREAD_RW, 16, 772 + 16 * (id - 0x3000) };
+    if (id >= 0x2000 && id <= 0x200E)
+        return (struct element){ THREAD_RW, 4, 712 + 4 * (id - 0x2000) };
+    switch (id) {
+    case NOP: return (struct element){ GUEST_RW | THREAD_RW, 0, 0 };
+    case VCPU_STATE_SIZE:
+    case RUN_OUTPUT_SIZE: return (struct element){ GUEST_R, 8, 0 };
+    case LOGICAL_PVR: return (struct element){ GUEST_RW, 4, 0 };
+    case 0x0004: return (struct element){ GUEST_RW, 8, TB_OFFSET };
+    case 0x0005: return (struct element){ GUEST_RW, 24, 12 };
+    case 0x0006: return (struct element){ GUEST_RW, 16, 36 };
+    case RUN_INPUT: return (struct element){ THREAD_RW, 16, 0 };
+    case RUN_OUTPUT: return (struct element){ THREAD_RW, 16, 16 };
+    case 0x0C02: return (struct element){ THREAD_RW, 8, 32 };
+    case 0xF000: return (struct element){ THREAD_R, 8, 1796 };
+    case 0xF001: return (struct element){ THREAD_R, 4, 1804 };
+    case 0xF002: return (struct element){ THREAD_R, 4, 1808 };
+    case 0xF003: return (struct element){ THREAD_R, 8, 1812 };
+    default: return (struct element){ 0, 0, 0 };
+    }
+}
+
+/* "The guest state buffer", value rules; capabilities are those agreed. Any other value of any element is good. */
+static bool good_value(unsigned id, const uint8_t *value, uint64_t capabilities)
+{
+    uint32_t pvr;
+    uint64_t size;
+    switch (id) {
+    case LOGICAL_PVR:
+        pvr = load32(value);
+        return (pvr == 0x0F000005 && (capabilities & BIT_0 >> 1) != 0) ||
+               (pvr == 0x0F000006 && (capabilities & BIT_0 >> 2) != 0);
+    case RUN_INPUT:
+        size = load64(value + 8);
+        return size >= 4 && size <= 65536;
+    case RUN_OUTPUT:
+        size = load64(value + 8);
+        return size >= 124 && size <= 65536;
+    default:
+        return true;
+    }
+}
+
+/*
+ * "The guest state buffer", for each element in turn: a header that does not fit is 7; then the ID, 6; then the size,
+ * 7, of which the NOP has any; then 7 if the value runs past the end; then, when setting, the value rule, 8. Place is
+ * the array index from 0. wanted is the one access that the call asks for.
+ */
+static inline adk_answer first_bad(const uint8_t *buffer, size_t len, unsigned wanted, uint64_t capabilities)
+{
+    uint32_t count = load32(buffer);
+    size_t at = 4;
+    for (uint32_t index = 0; index < count; index++) {
+        if (len - at < 4)
+            return answer(7, index);
+        uint32_t header = load32(buffer + at);
+        unsigned id = header >> 16, size = header & 0xFFFF;
+        struct element e = element(id);
+        at += 4;
+        if ((e.access & wanted) == 0)
+            return answer(6, index);
+        if (size != e.size && id != NOP)
+            return answer(7, index);
+        if (len - at < size)
+            return answer(7, index);
+        if ((wanted & (GUEST_W | THREAD_W)) != 0 && !good_value(id, buffer + at, capabilities))
+            return answer(8, index);
+        at += size;
+    }
+    return answer(0, 0);
+}
+
+/*
+ * "Answers", get and set state 1, 2, 3, 4, 5, then the elements; guest-wide the vCPU id is ignored. After 0, *values is
+ * where in the store the guest's or the vCPU's values begin.
+ */
+static adk_answer state_values(const uint8_t *s, size_t len, uint64_t flags, uint64_t guest, uint64_t vcpu,
+                               size_t buffer_len, size_t *values)
+{
+    if (!well_formed(s, len))
+        return answer(1, 0);
+    if ((flags & ~BIT_0) != 0)
+        return bad_flag(flags & ~BIT_0);
+    if (!live(s, guest))
+        return answer(3, 0);
+    *values = GUEST_VALUES + GUEST_SIZE * (guest - 1);
+    if (flags == 0) {
+        if (vcpu > VCPU_MAX)
+            return answer(4, 0);
+        unsigned slot = slot_with(s, USED | (unsigned)guest << GUEST_SHIFT | (unsigned)vcpu);
+        if (slot == SLOTS)
+            return answer(4, 0);
+        *values = SLOT_VALUES + SLOT_SIZE * slot;
+    }
+    return buffer_len < 4 || buffer_len > 65536 ? answer(5, 0) : answer(0, 0);
+}
+
+/*
+ * The two walks below meet only good elements. A copy goes by the listed size, where each case is a few moves (the NOP
+ * has none, and is not copied), and so does the step to the next element: the processor guesses it before the size in
+ * the buffer has arrived.
+ */
+static inline void copy(uint8_t *to, const uint8_t *from, unsigned size)
+{
+    switch (size) {
+    case 4: memcpy(to, from, 4); break;
+    case 8: memcpy(to, from, 8); break;
+    case 16: memcpy(to, from, 16); break;
+    case 24: memcpy(to, from, 24); break;
+    default: break;
+    }
+}
+
+/* "The guest state buffer": get writes the value bytes and nothing else. 0x0001 reads 1,820 and 0x0002 reads 124. */
+static void fill(uint8_t *buffer, const uint8_t *values)
+{
+    uint8_t *p = buffer + 4;
+    for (uint32_t left = load32(buffer); left > 0; left--) {
+        uint32_t header = load32(p);
+        unsigned id = header >> 16;
+        struct element e = element(id);
+        p += 4;
+        if (id == VCPU_STATE_SIZE)
+            store64(p, 1820);
+        else if (id == RUN_OUTPUT_SIZE)
+            store64(p, 124);
+        else
+            copy(p, values + e.at, e.size);
+        p += id == NOP ? header & 0xFFFF : e.size;
+    }
+}
+
+/* "The guest state buffer": set applies elements in order, so of two with one ID the later counts. */
+static void apply(uint8_t *values, const uint8_t *buffer)
+{
+    const uint8_t *p = buffer + 4;
+    for (uint32_t left = load32(buffer); left > 0; left--) {
+        uint32_t header = load32(p);
+        unsigned id = header >> 16;
+        struct element e = element(id);
+        p += 4;
+        copy(values + e.at, p, e.size);
+        p += id == NOP ? header & 0xFFFF : e.size;
+    }
+}
+
+/* "Answers": a refusal changes no byte of any buffer, so all elements are judged before one is filled. */
+adk_answer mdl_get_state(const uint8_t *store, size_t store_len, uint64_t flags, uint64_t guest, uint64_t vcpu,
+                         uint8_t *buffer, size_t buffer_len)
+{
+    size_t values;
+    adk_answer a = state_values(store, store_len, flags, guest, vcpu, buffer_len, &values);
+    if (a.r3 == 0)
+        a = first_bad(buffer, buffer_len, flags != 0 ? GUEST_R : THREAD_R, 0);
+    if (a.r3 == 0)
+        fill(buffer, store + values);
+    return a;
+}
+
+/* "Readings to rule out": applying while checking. All elements are judged before one is applied. */
+adk_answer mdl_set_state(uint8_t *store, size_t store_len, uint64_t flags, uint64_t guest, uint64_t vcpu,
+                         const uint8_t *buffer, size_t buffer_len)
+{
+    size_t values;
+    adk_answer a = state_values(store, store_len, flags, guest, vcpu, buffer_len, &values);
+    if (a.r3 == 0)
+        a = first_bad(buffer, buffer_len, flags != 0 ? GUEST_W : THREAD_W, load64(store + CAPABILITIES));
+    if (a.r3 == 0)
+        apply(store + values, buffer);
+    return a;
 }
 
 /* "The store": delete clears the live bit and the slot words only. */

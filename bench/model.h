@@ -1,6 +1,6 @@
 /*
- * model.h: the calls of adderknot.h once more, in plain C from document 01 alone. compare.c lays the library beside it.
- * Signatures, answers and the rules about lent memory are those of adderknot.h.
+ * model.h: the calls of adderknot.h once more, in plain C from document 01 alone. compare.c lays the library beside it,
+ * and speed.c times the two. Signatures, answers and the rules about lent memory are those of adderknot.h.
  */
 #ifndef MODEL_H
 #define MODEL_H
@@ -12,6 +12,10 @@ adk_answer mdl_get_capabilities(const uint8_t *store, size_t store_len, uint64_t
 adk_answer mdl_set_capabilities(uint8_t *store, size_t store_len, uint64_t flags, uint64_t bitmap);
 adk_answer mdl_create_guest(uint8_t *store, size_t store_len, uint64_t flags, uint64_t token);
 adk_answer mdl_create_vcpu(uint8_t *store, size_t store_len, uint64_t flags, uint64_t guest, uint64_t vcpu);
+adk_answer mdl_get_state(const uint8_t *store, size_t store_len, uint64_t flags, uint64_t guest, uint64_t vcpu,
+                         uint8_t *buffer, size_t buffer_len);
+adk_answer mdl_set_state(uint8_t *store, size_t store_len, uint64_t flags, uint64_t guest, uint64_t vcpu,
+                         const uint8_t *buffer, size_t buffer_len);
 adk_answer mdl_delete_guest(uint8_t *store, size_t store_len, uint64_t flags, uint64_t guest);
 adk_answer mdl_guest_clock(const uint8_t *store, size_t store_len, uint64_t guest, uint64_t timebase);
 adk_found mdl_lookup(const uint8_t *buffer, size_t buffer_len, uint16_t id);

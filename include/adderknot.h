@@ -63,12 +63,157 @@ extern "C" {
 /* The continue token of adk_create_guest: all ones. */
 #define ADK_TOKEN UINT64_MAX
 
+/* Flag of adk_get_state and adk_set_state: state of the guest instead of one vCPU. */
+#define ADK_GUEST_WIDE ADK_BIT(0)
+
 /* Flag of adk_delete_guest: delete all guests. */
 #define ADK_DELETE_ALL ADK_BIT(0)
 
-/* A guest state buffer has at least and at most so many bytes. */
+/*
+ * THE GUEST STATE BUFFER
+ *
+ * State travels in a guest state buffer of ADK_BUFFER_MIN to ADK_BUFFER_MAX bytes. All numbers in it, the values too,
+ * have their most significant byte first:
+ *
+ *     byte 0     4 bytes    the count: how many elements there are
+ *     byte 4                the elements, one behind the other without gaps. Each is
+ *                               2 bytes    the ID
+ *                               2 bytes    the size of the value in bytes
+ *                               size       the value
+ *
+ * Bytes after the last counted element are ignored. The count is not trusted: every counted element must lie within
+ * the buffer, and one that does not is ADK_INVALID_ELEMENT_SIZE. IDs may come in any order and more than once.
+ *
+ * Get and set state judge the elements in turn, up to the first bad one. The answer is then, in this order,
+ *
+ *     ADK_INVALID_ELEMENT_SIZE     if the four bytes of ID and size do not fit into the buffer
+ *     ADK_INVALID_ELEMENT_ID       if the ID is not listed below, has the other scope, or its access excludes the call
+ *     ADK_INVALID_ELEMENT_SIZE     if the size is not the listed one, or the value runs past the end of the buffer
+ *     ADK_INVALID_ELEMENT_VALUE    in set state, if the value breaks the rule of its element
+ *
+ * and r4 is the index of that element, from 0.
+ *
+ * THE ELEMENTS
+ *
+ * Scope: guest-wide elements go with ADK_GUEST_WIDE, thread elements without it. Access: R can be read with get state,
+ * W written with set state. Numbers in brackets are the bytes of each part. Where no rule is told every value is good.
+ * Addresses are kept and never followed. The values of a new guest or vCPU are 0.
+ *
+ *     ID               Size  Access  Value
+ *     0x0000           any   RW      NOP, in both scopes: its value bytes are neither read nor written
+ *
+ *                                    Guest-wide
+ *     0x0001           8     R       size of L0's vCPU state: always 1,820
+ *     0x0002           8     R       least size of a run vCPU output buffer: always 124
+ *     0x0003           4     RW      logical PVR. Rule: ADK_PVR_ARCH_300, if ADK_CAP_POWER9 is agreed at the call, or
+ *                                    ADK_PVR_ARCH_31, if ADK_CAP_POWER10 is
+ *     0x0004           8     RW      TB offset, relative to L1's timebase
+ *     0x0005           24    RW      partition-scoped page table: address (8), number of address bits (8), size of the
+ *                                    root directory (8)
+ *     0x0006           16    RW      process table: address (8), size (8)
+ *
+ *                                    Thread
+ *     0x0C00           16    RW      run vCPU input buffer: address (8), size (8). Rule: the size is 4 to 65,536
+ *     0x0C01           16    RW      run vCPU output buffer: address (8), size (8). Rule: the size is 124 to 65,536
+ *     0x0C02           8     RW      address of the VPA
+ *     0x1000-0x1053    8     RW      GPR 0 to 31 and the registers of 64 bits named below; but 0x103A, PPR, is W
+ *     0x2000-0x200E    4     RW      the registers of 32 bits named below
+ *     0x3000-0x303F    16    RW      VSR 0 to 63
+ *     0xF000           8     R       HDAR
+ *     0xF001           4     R       HDSISR
+ *     0xF002           4     R       HEIR; Linux's L1 code gives it 8 bytes, which is ADK_INVALID_ELEMENT_SIZE here
+ *     0xF003           8     R       ASDR
+ *
+ * The names below follow Linux's guest-state-buffer.h.
+ */
 #define ADK_BUFFER_MIN 4
 #define ADK_BUFFER_MAX 65536
+
+/* Logical PVRs: Power ISA 3.0 (POWER9) and 3.1 (POWER10). */
+#define ADK_PVR_ARCH_300 0x0F000005
+#define ADK_PVR_ARCH_31 0x0F000006
+
+/* IDs of numbered registers, by the number in the register's name. */
+#define ADK_GSID_GPR(n) (0x1000 + (n))  /* 0 to 31 */
+#define ADK_GSID_SPRG(n) (0x1036 + (n)) /* 0 to 3 */
+#define ADK_GSID_MMCR(n) (0x103B + (n)) /* 0 to 3 */
+#define ADK_GSID_PMC(n) (0x2006 + (n))  /* 1 to 6: 0x2007 to 0x200C */
+#define ADK_GSID_VSR(n) (0x3000 + (n))  /* 0 to 63 */
+
+enum {
+    ADK_GSID_NOP = 0x0000,
+
+    ADK_GSID_HOST_STATE_SIZE = 0x0001,
+    ADK_GSID_RUN_OUTPUT_MIN_SIZE = 0x0002,
+    ADK_GSID_LOGICAL_PVR = 0x0003,
+    ADK_GSID_TB_OFFSET = 0x0004,
+    ADK_GSID_PARTITION_TABLE = 0x0005,
+    ADK_GSID_PROCESS_TABLE = 0x0006,
+
+    ADK_GSID_RUN_INPUT = 0x0C00,
+    ADK_GSID_RUN_OUTPUT = 0x0C01,
+    ADK_GSID_VPA = 0x0C02,
+
+    ADK_GSID_HDEC_EXPIRY_TB = 0x1020,
+    ADK_GSID_NIA = 0x1021,
+    ADK_GSID_MSR = 0x1022,
+    ADK_GSID_LR = 0x1023,
+    ADK_GSID_XER = 0x1024,
+    ADK_GSID_CTR = 0x1025,
+    ADK_GSID_CFAR = 0x1026,
+    ADK_GSID_SRR0 = 0x1027,
+    ADK_GSID_SRR1 = 0x1028,
+    ADK_GSID_DAR = 0x1029,
+    ADK_GSID_DEC_EXPIRY_TB = 0x102A,
+    ADK_GSID_VTB = 0x102B,
+    ADK_GSID_LPCR = 0x102C,
+    ADK_GSID_HFSCR = 0x102D,
+    ADK_GSID_FSCR = 0x102E,
+    ADK_GSID_FPSCR = 0x102F,
+    ADK_GSID_DAWR0 = 0x1030,
+    ADK_GSID_DAWR1 = 0x1031,
+    ADK_GSID_CIABR = 0x1032,
+    ADK_GSID_PURR = 0x1033,
+    ADK_GSID_SPURR = 0x1034,
+    ADK_GSID_IC = 0x1035,
+    ADK_GSID_PPR = 0x103A,
+    ADK_GSID_MMCRA = 0x103F,
+    ADK_GSID_SIER = 0x1040,
+    ADK_GSID_SIER2 = 0x1041,
+    ADK_GSID_SIER3 = 0x1042,
+    ADK_GSID_BESCR = 0x1043,
+    ADK_GSID_EBBHR = 0x1044,
+    ADK_GSID_EBBRR = 0x1045,
+    ADK_GSID_AMR = 0x1046,
+    ADK_GSID_IAMR = 0x1047,
+    ADK_GSID_AMOR = 0x1048,
+    ADK_GSID_UAMOR = 0x1049,
+    ADK_GSID_SDAR = 0x104A,
+    ADK_GSID_SIAR = 0x104B,
+    ADK_GSID_DSCR = 0x104C,
+    ADK_GSID_TAR = 0x104D,
+    ADK_GSID_DEXCR = 0x104E,
+    ADK_GSID_HDEXCR = 0x104F,
+    ADK_GSID_HASHKEYR = 0x1050,
+    ADK_GSID_HASHPKEYR = 0x1051,
+    ADK_GSID_CTRL = 0x1052,
+    ADK_GSID_DPDES = 0x1053,
+
+    ADK_GSID_CR = 0x2000,
+    ADK_GSID_PIDR = 0x2001,
+    ADK_GSID_DSISR = 0x2002,
+    ADK_GSID_VSCR = 0x2003,
+    ADK_GSID_VRSAVE = 0x2004,
+    ADK_GSID_DAWRX0 = 0x2005,
+    ADK_GSID_DAWRX1 = 0x2006,
+    ADK_GSID_WORT = 0x200D,
+    ADK_GSID_PSPB = 0x200E,
+
+    ADK_GSID_HDAR = 0xF000,
+    ADK_GSID_HDSISR = 0xF001,
+    ADK_GSID_HEIR = 0xF002,
+    ADK_GSID_ASDR = 0xF003
+};
 
 /*
  * THE ANSWERS
@@ -84,9 +229,12 @@ extern "C" {
  *                                 a bit that is not offered. r4: set capabilities, 1
  *  4  ADK_BAD_VCPU                the vCPU id is above ADK_VCPU_MAX, or (not when creating) the vCPU is absent
  *  5  ADK_BAD_LENGTH              the buffer has under ADK_BUFFER_MIN or over ADK_BUFFER_MAX bytes
- *  6  ADK_INVALID_ELEMENT_ID      lookup: no counted element has the ID. r4: the count
- *  7  ADK_INVALID_ELEMENT_SIZE    lookup: an element is cut off by the buffer's end. r4: its index, from 0
- *  8  ADK_INVALID_ELEMENT_VALUE   (not yet) an element's value breaks its rule
+ *  6  ADK_INVALID_ELEMENT_ID      get and set state: an element's ID is not listed, of the wrong scope, or not
+ *                                 permitted in the call. r4: its index, from 0. Lookup: no counted element has the
+ *                                 ID. r4: the count
+ *  7  ADK_INVALID_ELEMENT_SIZE    an element is cut off by the buffer's end; get and set state: or its size is not the
+ *                                 listed one. r4: its index, from 0
+ *  8  ADK_INVALID_ELEMENT_VALUE   set state: an element's value breaks its rule. r4: its index, from 0
  *  9  ADK_NOT_ENOUGH_RESOURCES    no free guest number, or no free slot
  * 10  ADK_VCPU_EXISTS             the vCPU already exists
  * 11  ADK_NOT_REGISTERED          (not yet) a run buffer is not registered
@@ -94,8 +242,8 @@ extern "C" {
  * 13  ADK_UNKNOWN_EXIT            (not yet) unknown exit reason
  * 14  ADK_BAD_EFFECT              (not yet) bad effect buffer
  *
- * Those marked (not yet) belong to get state, set state and run, which have no function here yet. 15 is a fault of the
- * L1 cache, which C cannot call.
+ * Those marked (not yet) belong to run, which has no function here yet. 15 is a fault of the L1 cache, which C cannot
+ * call.
  */
 enum {
     ADK_OK = 0,
@@ -171,6 +319,30 @@ adk_answer adk_create_guest(uint8_t *store, size_t store_len, uint64_t flags, ui
 adk_answer adk_create_vcpu(uint8_t *store, size_t store_len, uint64_t flags, uint64_t guest, uint64_t vcpu);
 
 /*
+ * H_GUEST_GET_STATE. Reads elements of a vCPU or, with ADK_GUEST_WIDE, of a guest: vcpu is then ignored. The caller
+ * writes the count and each element's ID and size; the call fills in the value bytes of each, also where an ID comes
+ * more than once, and writes nothing else of the buffer.
+ *
+ * Answers: ADK_BAD_STORE, ADK_BAD_FLAG (a bit other than ADK_GUEST_WIDE), ADK_BAD_PARAMETER (the guest is not live),
+ * ADK_BAD_VCPU (never with ADK_GUEST_WIDE), ADK_BAD_LENGTH, then of the first bad element ADK_INVALID_ELEMENT_ID or
+ * ADK_INVALID_ELEMENT_SIZE (r4: its index, from 0), ADK_OK.
+ */
+adk_answer adk_get_state(const uint8_t *store, size_t store_len, uint64_t flags, uint64_t guest, uint64_t vcpu,
+                         uint8_t *buffer, size_t buffer_len);
+
+/*
+ * H_GUEST_SET_STATE. Writes elements of a vCPU or, with ADK_GUEST_WIDE, of a guest: vcpu is then ignored. The whole
+ * buffer is judged before anything is set. Elements are set in order, so of two with one ID the later counts; those
+ * that the buffer does not name stay.
+ *
+ * Answers: ADK_BAD_STORE, ADK_BAD_FLAG (a bit other than ADK_GUEST_WIDE), ADK_BAD_PARAMETER (the guest is not live),
+ * ADK_BAD_VCPU (never with ADK_GUEST_WIDE), ADK_BAD_LENGTH, then of the first bad element ADK_INVALID_ELEMENT_ID,
+ * ADK_INVALID_ELEMENT_SIZE or ADK_INVALID_ELEMENT_VALUE (r4: its index, from 0), ADK_OK.
+ */
+adk_answer adk_set_state(uint8_t *store, size_t store_len, uint64_t flags, uint64_t guest, uint64_t vcpu,
+                         const uint8_t *buffer, size_t buffer_len);
+
+/*
  * H_GUEST_DELETE. Deletes a live guest and its vCPUs, or, with ADK_DELETE_ALL, every guest and vCPU: guest is then
  * ignored, and no guest need be live. Numbers and slots so freed are used again. Agreed capabilities and value bytes
  * stay.
@@ -189,10 +361,8 @@ adk_answer adk_delete_guest(uint8_t *store, size_t store_len, uint64_t flags, ui
 adk_answer adk_guest_clock(const uint8_t *store, size_t store_len, uint64_t guest, uint64_t timebase);
 
 /*
- * Finds an element in a guest state buffer: four bytes of count, then elements, each 2 bytes of ID, 2 bytes of size and
- * the value, all numbers most significant byte first. Bytes after the last counted element are ignored. Of several
- * elements with the ID the last counts. Any ID may be asked for; IDs and sizes are not judged. The count is not
- * trusted: every counted element must lie within the buffer, those behind a match too.
+ * Finds an element in a guest state buffer. Of several elements with the ID the last counts. Any ID may be asked for;
+ * IDs and sizes are not judged, but every counted element must lie within the buffer, those behind a match too.
  *
  * Answers: ADK_BAD_LENGTH, ADK_INVALID_ELEMENT_SIZE (r4: the index of the first element that is cut off),
  * ADK_INVALID_ELEMENT_ID (r4: the count), ADK_OK (at, len: the value; at is told for an empty value too).

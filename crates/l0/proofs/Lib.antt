@@ -4,3 +4,4 @@ pub mod Kept
 pub mod Lowest
 pub mod Targets
 pub mod Buffers
+pub mod States

@@ -22,10 +22,10 @@ use Rattle.l0.specs.Refusals.{Outcome, accept, refuse, decide}
 use Rattle.l0.specs.Calls.{createGuest, createVcpu}
 use Rattle.l0.proofs.Kept.{Passed}
 
--- none of the faults is success
-abbrev Real : List (Bool × Fault) → Type 0
+-- no test that holds has success for its fault
+abbrev pub Real : List (Bool × Fault) → Type 0
 Real [] = Unit {0}
-Real (x ∷ xs) = (x .1 ≡ None → ⊥) × Real xs
+Real (x ∷ xs) = (x .0 ≡ true → x .1 ≡ None → ⊥) × Real xs
 
 -- an accepted call passed all its tests
 pub accepted : (s b : List ℕ) (tests : List (Bool × Fault)) (o : Outcome) → Real tests → decide s b tests o .answer .fault ≡ None → Passed tests × (decide s b tests o ≡ o)
@@ -36,22 +36,22 @@ accepted s b (x ∷ xs) o r e = go (x .0) refl e (accepted s b xs o (r .1))
     go : (t : Bool) → x .0 ≡ t → cond t (refuse s b (x .1)) (firstOf (refuse s b) xs o) .answer .fault ≡ None
         → (firstOf (refuse s b) xs o .answer .fault ≡ None → Passed xs × (firstOf (refuse s b) xs o ≡ o))
         → ((x .0 ≡ false) × Passed xs) × (cond t (refuse s b (x .1)) (firstOf (refuse s b) xs o) ≡ o)
-    go true q k ih = absurd (r .0 k)
+    go true q k ih = absurd (r .0 q k)
     go false q k ih = let p = ih k in ((q, p .0), p .1)
 
-no-store : Store ≡ None → ⊥
+pub no-store : Store ≡ None → ⊥
 no-store z = let y : _≡_ {A = ℕ} 0 1 = cc in omega arith
 
-no-flag : (n : ℕ) → Flag n ≡ None → ⊥
+pub no-flag : (n : ℕ) → Flag n ≡ None → ⊥
 no-flag n z = let y : _≡_ {A = ℕ} 0 1 = cc in omega arith
 
 no-token : Token ≡ None → ⊥
 no-token z = let y : _≡_ {A = ℕ} 0 1 = cc in omega arith
 
-no-guest : Guest ≡ None → ⊥
+pub no-guest : Guest ≡ None → ⊥
 no-guest z = let y : _≡_ {A = ℕ} 0 1 = cc in omega arith
 
-no-vcpu : Vcpu ≡ None → ⊥
+pub no-vcpu : Vcpu ≡ None → ⊥
 no-vcpu z = let y : _≡_ {A = ℕ} 0 1 = cc in omega arith
 
 no-exists : Exists ≡ None → ⊥
@@ -85,7 +85,7 @@ module _ (l : Layout) (s : List ℕ) where
   pub lowest-guest : (flags token : ℕ) → createGuest l s flags token .answer .fault ≡ None → LowestGuest (createGuest l s flags token .answer .value)
   unfolding createGuest freeGuest isDead
   lowest-guest flags token e =
-      let p = accepted s [] _ _ (no-store, (no-flag _, (no-token, (no-room, tt)))) e in
+      let p = accepted s [] _ _ ((λ t. no-store), ((λ t. no-flag _), ((λ t. no-token), ((λ t. no-room), tt)))) e in
       let u : freeGuest l (header l s) ≤ l .guests = ltb-false _ _ (p .0 .1 .1 .1 .0) in
       let f = first-found (isDead l (header l s)) (l .guests) 1 (omega arith) in
       guest-at (sym (ap (λ (o : Outcome). o .answer .value) (p .1)))
@@ -94,7 +94,7 @@ module _ (l : Layout) (s : List ℕ) where
   pub lowest-slot : (flags guest vcpu : ℕ) → createVcpu l s flags guest vcpu .answer .fault ≡ None → LowestSlot (freeSlot l (header l s))
   unfolding createVcpu freeSlot slotHolding holds
   lowest-slot flags guest vcpu e =
-      let p = accepted s [] _ _ (no-store, (no-flag _, (no-guest, (no-vcpu, (no-exists, (no-room, tt)))))) e in
+      let p = accepted s [] _ _ ((λ t. no-store), ((λ t. no-flag _), ((λ t. no-guest), ((λ t. no-vcpu), ((λ t. no-exists), ((λ t. no-room), tt)))))) e in
       let u : freeSlot l (header l s) < l .slots = ltb-true _ _ (not-false _ (p .0 .1 .1 .1 .1 .1 .0)) in
       let f = first-found (holds l (header l s) 0) (l .slots) 0 (omega arith) in
       record { upto = u; free = eqb-true _ _ (f .has); taken = λ k j. eqb-false _ _ (f .none k (omega arith) j) }

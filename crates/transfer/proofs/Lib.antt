@@ -1,3 +1,4 @@
 pub mod Moving
 pub mod Filling
 pub mod Accepted
+pub mod Named

@@ -1,0 +1,279 @@
+/*
+ * speed.c: times the library against the model on the calls that walk a guest state buffer.
+ *
+ *     cc -std=c11 -O2 -I include bench/speed.c bench/model.c libadderknot.a -o speed
+ *     speed [--rounds N]
+ *
+ * It prints a line for each case: 'ratio  library ns  model ns  case'. Each round times both sides on the same work,
+ * one straight after the other and in changing order, so that both meet the same machine. The ratio is the median of
+ * the rounds' ratios, library over model; the times are medians too, of one call.
+ *
+ * The result is 0 whatever the ratios are: it is a measurement. It is 1 if the sides do not give the answer that the
+ * case names, or differ in the store or the buffer afterwards.
+ */
+#define _POSIX_C_SOURCE 199309L
+
+#include "model.h"
+
+#include <stdbool.h>
+#include <stdio.h>
+#include <stdlib.h>
+#include <string.h>
+#include <time.h>
+
+#define COUNT(a) (sizeof(a) / sizeof((a)[0]))
+
+enum { ROUNDS_MAX = 100000, BATCH_NS = 400000 };
+
+/* Where the values begin in a store. */
+enum { VALUES = 42 };
+
+/* The store is full and the vCPU is in the last slot: then finding it, and testing the store, take longest. */
+enum { GUEST = ADK_GUESTS, VCPU = ADK_VCPU_MAX };
+
+/* ---- The two sides ---- */
+
+struct side {
+    adk_answer (*get_state)(const uint8_t *, size_t, uint64_t, uint64_t, uint64_t, uint8_t *, size_t);
+    adk_answer (*set_state)(uint8_t *, size_t, uint64_t, uint64_t, uint64_t, const uint8_t *, size_t);
+    adk_found (*lookup)(const uint8_t *, size_t, uint16_t);
+    uint8_t store[ADK_STORE_SIZE];
+    uint8_t buffer[ADK_BUFFER_MAX];
+    size_t len;
+};
+
+static struct side library = { .get_state = adk_get_state, .set_state = adk_set_state, .lookup = adk_lookup };
+static struct side model = { .get_state = mdl_get_state, .set_state = mdl_set_state, .lookup = mdl_lookup };
+
+static adk_found call_get(struct side *s)
+{
+    adk_answer a = s->get_state(s->store, sizeof s->store, 0, GUEST, VCPU, s->buffer, s->len);
+    return (adk_found){ a.r3, a.r4, a.r5, 0, 0 };
+}
+
+static adk_found call_set(struct side *s)
+{
+    adk_answer a = s->set_state(s->store, sizeof s->store, 0, GUEST, VCPU, s->buffer, s->len);
+    return (adk_found){ a.r3, a.r4, a.r5, 0, 0 };
+}
+
+static adk_found call_lookup(struct side *s)
+{
+    return s->lookup(s->buffer, s->len, ADK_GSID_VSR(63));
+}
+
+/* A store with every guest and every slot in use. Its values differ, so that one from a wrong place shows. */
+static bool fill_store(uint8_t *store)
+{
+    uint64_t refused = adk_fresh_store(store, ADK_STORE_SIZE).r3;
+    refused |= adk_set_capabilities(store, ADK_STORE_SIZE, 0, ADK_CAP_POWER9 | ADK_CAP_POWER10).r3;
+    for (unsigned i = 0; i < ADK_GUESTS; i++)
+        refused |= adk_create_guest(store, ADK_STORE_SIZE, 0, ADK_TOKEN).r3;
+    for (unsigned i = 1; i < ADK_SLOTS; i++)
+        refused |= adk_create_vcpu(store, ADK_STORE_SIZE, 0, 1 + i % ADK_GUESTS, i).r3;
+    refused |= adk_create_vcpu(store, ADK_STORE_SIZE, 0, GUEST, VCPU).r3;
+    for (size_t i = VALUES; i < ADK_STORE_SIZE; i++)
+        store[i] = (uint8_t)(101 * i);
+    return refused == 0;
+}
+
+/* ---- Buffers ---- */
+
+static void put(uint8_t *p, unsigned n, uint64_t v)
+{
+    for (; n-- > 0; v >>= 8)
+        p[n] = (uint8_t)v;
+}
+
+/* Adds an element, with a value in which each byte is another. */
+static void add(struct side *s, unsigned id, unsigned size)
+{
+    uint8_t *p = s->buffer + s->len;
+    put(p, 2, id);
+    put(p + 2, 2, size);
+    for (unsigned i = 0; i < size; i++)
+        p[4 + i] = (uint8_t)(s->len + i);
+    s->len += 4 + size;
+}
+
+static void add_run(struct side *s, unsigned first, unsigned last, unsigned size)
+{
+    for (unsigned id = first; id <= last; id++)
+        add(s, id, size);
+}
+
+static void add_registration(struct side *s, unsigned id)
+{
+    add(s, id, 16);
+    put(s->buffer + s->len - 8, 8, ADK_BUFFER_MAX);
+}
+
+static void build_one(struct side *s)
+{
+    add(s, ADK_GSID_GPR(3), 8);
+}
+
+/* All that a run input takes; the last is VSR 63. */
+static void build_164(struct side *s)
+{
+    add_run(s, 0x0C02, 0x0C02, 8);
+    add_run(s, 0x1000, 0x1053, 8);
+    add_run(s, 0x2000, 0x200E, 4);
+    add_run(s, 0x3000, 0x303F, 16);
+}
+
+static void build_166(struct side *s)
+{
+    add_registration(s, ADK_GSID_RUN_INPUT);
+    add_registration(s, ADK_GSID_RUN_OUTPUT);
+    build_164(s);
+}
+
+static void build_readable(struct side *s)
+{
+    add_run(s, 0x0C00, 0x0C01, 16);
+    add_run(s, 0x0C02, 0x0C02, 8);
+    add_run(s, 0x1000, 0x1039, 8);
+    add_run(s, 0x103B, 0x1053, 8);
+    add_run(s, 0x2000, 0x200E, 4);
+    add_run(s, 0x3000, 0x303F, 16);
+    add_run(s, 0xF000, 0xF000, 8);
+    add_run(s, 0xF001, 0xF002, 4);
+    add_run(s, 0xF003, 0xF003, 8);
+}
+
+/* The last ID is one past the list. */
+static void build_bad(struct side *s)
+{
+    build_164(s);
+    s->len -= 4 + 16;
+    add(s, 0x3040, 16);
+}
+
+static void build_nops(struct side *s)
+{
+    memset(s->buffer + 4, 0, ADK_BUFFER_MAX - 4);
+    s->len = ADK_BUFFER_MAX;
+}
+
+/* ---- Cases ---- */
+
+static const struct work {
+    const char *name;
+    adk_found (*call)(struct side *s);
+    void (*build)(struct side *s);
+    unsigned count;
+    uint64_t r3, r4;
+} WORK[] = {
+    { "set state, one GPR", call_set, build_one, 1, ADK_OK, 0 },
+    { "set state, the 164 elements of a run input and both registrations", call_set, build_166, 166, ADK_OK, 0 },
+    { "get state, all 169 readable thread elements", call_get, build_readable, 169, ADK_OK, 0 },
+    { "set state, refused: the last of 164 is bad", call_set, build_bad, 164, ADK_INVALID_ELEMENT_ID, 163 },
+    { "set state, 16,383 empty NOPs", call_set, build_nops, 16383, ADK_OK, 0 },
+    { "lookup, the last of 164", call_lookup, build_164, 164, ADK_OK, 0 },
+};
+
+static void prepare(struct side *s, const struct work *w)
+{
+    s->len = 4;
+    put(s->buffer, 4, w->count);
+    w->build(s);
+}
+
+/* One call on each side, outside the clock. */
+static bool agree(const struct work *w)
+{
+    adk_found l = w->call(&library), m = w->call(&model);
+    return l.r3 == w->r3 && l.r4 == w->r4 && l.r3 == m.r3 && l.r4 == m.r4 && l.r5 == m.r5 && l.at == m.at &&
+           l.len == m.len && memcmp(library.store, model.store, sizeof model.store) == 0 &&
+           memcmp(library.buffer, model.buffer, model.len) == 0;
+}
+
+/* ---- Time ---- */
+
+static double now(void)
+{
+    struct timespec t;
+    clock_gettime(CLOCK_MONOTONIC, &t);
+    return 1e9 * (double)t.tv_sec + (double)t.tv_nsec;
+}
+
+/* The time of one call, from so many. */
+static double time_call(struct side *s, const struct work *w, unsigned calls)
+{
+    double start = now();
+    for (unsigned i = 0; i < calls; i++)
+        w->call(s);
+    return (now() - start) / calls;
+}
+
+/* So many calls that the clock's own steps do not matter. */
+static unsigned batch_size(const struct work *w)
+{
+    unsigned calls = 1;
+    while (calls < 1u << 24 && calls * time_call(&model, w, calls) < BATCH_NS)
+        calls *= 2;
+    return calls;
+}
+
+static int by_size(const void *a, const void *b)
+{
+    double x = *(const double *)a, y = *(const double *)b;
+    return (x > y) - (x < y);
+}
+
+static double median(double *v, size_t n)
+{
+    qsort(v, n, sizeof v[0], by_size);
+    return n % 2 != 0 ? v[n / 2] : (v[n / 2 - 1] + v[n / 2]) / 2;
+}
+
+static void measure(const struct work *w, unsigned rounds)
+{
+    static double ratio[ROUNDS_MAX], lib[ROUNDS_MAX], mdl[ROUNDS_MAX];
+    unsigned calls = batch_size(w);
+    for (unsigned i = 0; i < rounds; i++) {
+        if (i % 2 != 0)
+            mdl[i] = time_call(&model, w, calls);
+        lib[i] = time_call(&library, w, calls);
+        if (i % 2 == 0)
+            mdl[i] = time_call(&model, w, calls);
+        ratio[i] = lib[i] / mdl[i];
+    }
+    printf("%5.2f  %10.1f  %8.1f  %s\n", median(ratio, rounds), median(lib, rounds), median(mdl, rounds), w->name);
+}
+
+static int usage(void)
+{
+    fprintf(stderr, "usage: speed [--rounds N], N from 1 to %d\n", ROUNDS_MAX);
+    return 2;
+}
+
+int main(int argc, char **argv)
+{
+    long rounds = 201;
+    char *end = "";
+    if (argc == 3 && strcmp(argv[1], "--rounds") == 0)
+        rounds = strtol(argv[2], &end, 10);
+    else if (argc != 1)
+        return usage();
+    if (*end != '\0' || rounds < 1 || rounds > ROUNDS_MAX)
+        return usage();
+    if (!fill_store(library.store)) {
+        printf("failed speed: the store could not be filled\n");
+        return 1;
+    }
+    memcpy(model.store, library.store, sizeof model.store);
+    printf("speed: %ld rounds\nratio  library ns  model ns  case\n", rounds);
+    for (size_t i = 0; i < COUNT(WORK); i++) {
+        prepare(&library, &WORK[i]);
+        prepare(&model, &WORK[i]);
+        bool same = agree(&WORK[i]);
+        measure(&WORK[i], (unsigned)rounds);
+        if (!same || !agree(&WORK[i])) {
+            printf("failed speed: library and model differ, or did other work, in: %s\n", WORK[i].name);
+            return 1;
+        }
+    }
+    return 0;
+}
