@@ -100,7 +100,7 @@ unfolding applied
 applied-kept l so base b zero s k = refl
 applied-kept l so base b (suc n) s k = stored-kept l so (kindOf (idAt b (offsetAt b n))) base (valueAt b (offsetAt b n)) (applied base b n s) k ∙ applied-kept l so base b n s k
 
-base-values : (l : Layout) → Sound l → (s : List ℕ) (flags guest vcpu : ℕ) → l .«guests_at» ≤ baseOf l s flags guest vcpu
+pub base-values : (l : Layout) → Sound l → (s : List ℕ) (flags guest vcpu : ℕ) → l .«guests_at» ≤ baseOf l s flags guest vcpu
 unfolding baseOf
 base-values l so s flags guest vcpu = go (hasBit0 flags)
   where

@@ -5,3 +5,4 @@ pub mod Lowest
 pub mod Targets
 pub mod Buffers
 pub mod States
+pub mod ReadBack

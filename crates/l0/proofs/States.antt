@@ -1,5 +1,5 @@
--- THEOREMS of get and set state: `refused-exactly`, `only-named`, that a set followed by a get of one element gives the value set, and
--- that setting one guest or vCPU leaves the others' values. Assumes nothing.
+-- THEOREMS of get and set state: `refused-exactly`, `only-named`, and that setting one guest or vCPU leaves the others' values.
+-- Assumes nothing.
 use mathlib.Core.Path.{_≡_, refl, sym, ap, ap₂, _∙_, subst}
 use mathlib.Core.Logic.{_↔_, _≢_}
 use mathlib.Core.Bool.{Bool, true, false, not, _&&_, cond}
@@ -51,10 +51,10 @@ not-stopped Done e = refl
 not-stopped (Stopped bad place) e = let z : _≡_ {A = ℕ} 0 1 = cc in absurd (omega arith)
 
 -- the use of a call's buffer
-abbrev setUse : ℕ → Usage
+abbrev pub setUse : ℕ → Usage
 setUse flags = cond (hasBit0 flags) GuestSet ThreadSet
 
-abbrev getUse : ℕ → Usage
+abbrev pub getUse : ℕ → Usage
 getUse flags = cond (hasBit0 flags) GuestGet ThreadGet
 
 module _ (l : Layout) (s : List ℕ) (flags guest vcpu : ℕ) (b : List ℕ) where
@@ -103,7 +103,7 @@ module _ (l : Layout) (s : List ℕ) (flags guest vcpu : ℕ) (b : List ℕ) whe
 
   -- ---- only what is named changes
   -- a buffer that passed its tests was walked to its end
-  walked : (usage : Usage) → Passed (targetTests l s bit0 flags (hasBit0 flags) guest vcpu ++ bufferTests l s usage b) → firstBad (contextOf l s usage) b ≡ Done
+  pub walked : (usage : Usage) → Passed (targetTests l s bit0 flags (hasBit0 flags) guest vcpu ++ bufferTests l s usage b) → firstBad (contextOf l s usage) b ≡ Done
   walked usage p = not-stopped (firstBad (contextOf l s usage) b) (p .1 .1 .1 .1 .1 .0)
 
   abbrev setTests : List (Bool × Fault)
@@ -130,3 +130,121 @@ module _ (l : Layout) (s : List ℕ) (flags guest vcpu : ℕ) (b : List ℕ) whe
   set-beside i n room c =
       decided (PartKept i n) s [] setTests setDone (λ f. record { same = refl })
       (λ p. record { same = beside (contextOf l s (setUse flags)) (baseOf l s flags guest vcpu) b (walked (setUse flags) p) s i n room c }) .same
+
+  -- ---- get: only value bytes of the buffer
+  -- the values of a target that was found lie within the store
+  base-room : Sound l → (usage : Usage) → bytesOf (scopeFor usage) ≡ cond (hasBit0 flags) guestBytes slotBytes → Passed (targetTests l s bit0 flags (hasBit0 flags) guest vcpu)
+      → baseOf l s flags guest vcpu + bytesOf (scopeFor usage) ≤ length s
+  unfolding baseOf
+  base-room so usage e p =
+      let long = formed l s (not-false _ (p .0)) .long in
+      let b = live-parts l (header l s) guest (not-false _ (p .1 .1 .0)) in
+      go (hasBit0 flags) e (p .1 .1 .1 .0) long (b .0) (b .1)
+    where
+      go : (t : Bool) → bytesOf (scopeFor usage) ≡ cond t guestBytes slotBytes → (not t && leb (l .slots) (slotOf l (header l s) guest vcpu)) ≡ false → length s ≡ l .size → 1 ≤ guest → guest ≤ l .guests
+          → cond t (guestAt l guest) (slotAt l (slotOf l (header l s) guest vcpu)) + bytesOf (scopeFor usage) ≤ length s
+      go true q a long lo hi = omega (arith, q, so .guests-fit, so .whole)
+      go false q a long lo hi = let k : slotOf l (header l s) guest vcpu < l .slots = leb-false _ _ a in omega (arith, q, so .whole)
+
+  pub get-room : bytesOf (scopeFor (getUse flags)) ≡ cond (hasBit0 flags) guestBytes slotBytes
+  get-room = go (hasBit0 flags)
+    where
+      go : (t : Bool) → bytesOf (scopeFor (cond t GuestGet ThreadGet)) ≡ cond t guestBytes slotBytes
+      go true = refl
+      go false = refl
+
+  pub set-room : bytesOf (scopeFor (setUse flags)) ≡ cond (hasBit0 flags) guestBytes slotBytes
+  set-room = go (hasBit0 flags)
+    where
+      go : (t : Bool) → bytesOf (scopeFor (cond t GuestSet ThreadSet)) ≡ cond t guestBytes slotBytes
+      go true = refl
+      go false = refl
+
+  -- the tests of the target alone
+  target-passed : (usage : Usage) → Passed (targetTests l s bit0 flags (hasBit0 flags) guest vcpu ++ bufferTests l s usage b) → Passed (targetTests l s bit0 flags (hasBit0 flags) guest vcpu)
+  target-passed usage p = (p .0, (p .1 .0, (p .1 .1 .0, (p .1 .1 .1 .0, tt))))
+
+  long-passed : (usage : Usage) → Passed (targetTests l s bit0 flags (hasBit0 flags) guest vcpu ++ bufferTests l s usage b) → 4 ≤ length b
+  long-passed usage p = long-enough b (badLength b) refl (p .1 .1 .1 .1 .0)
+
+  pub all-ready : Sound l → (usage : Usage) → bytesOf (scopeFor usage) ≡ cond (hasBit0 flags) guestBytes slotBytes
+      → Passed (targetTests l s bit0 flags (hasBit0 flags) guest vcpu ++ bufferTests l s usage b) → AllReady (baseOf l s flags guest vcpu) b (length s)
+  all-ready so usage e p = ready-all (contextOf l s usage) (baseOf l s flags guest vcpu) (length s) (base-room so usage e (target-passed usage p)) b (long-passed usage p) (walked usage p)
+
+  abbrev getTests : List (Bool × Fault)
+  getTests = targetTests l s bit0 flags (hasBit0 flags) guest vcpu ++ bufferTests l s (getUse flags) b
+
+  record BufferKept (j : ℕ) (o : Outcome) : Type 0 where
+    kept : getD (o .buffer) j 0 ≡ getD b j 0
+
+  pub get-only-named : Sound l → (j : ℕ) → (ValueByte b (countOf b) j → ⊥) → getD (getState l s flags guest vcpu b .buffer) j 0 ≡ getD b j 0
+  unfolding getState
+  get-only-named so j out =
+      decided (BufferKept j) s b getTests (fillWith s (baseOf l s flags guest vcpu) b) (λ f. record { kept = refl })
+      (λ p. record { kept = filled-frame (baseOf l s flags guest vcpu) s b (all-ready so (getUse flags) get-room p) (countOf b) j (omega arith) out }) .kept
+
+-- ---- setting one guest or vCPU leaves the others' values
+slots-apart : (l : Layout) (i j : ℕ) → i ≢ j → Clear (slotAt l i) slotBytes (slotAt l j) slotBytes
+slots-apart l i j n = go (decLt i j)
+  where
+    go : Dec (i < j) → Clear (slotAt l i) slotBytes (slotAt l j) slotBytes
+    go (yes h) = left (omega arith)
+    go (no h) = right (omega arith)
+
+guests-apart : (l : Layout) (g k : ℕ) → 1 ≤ g → 1 ≤ k → g ≢ k → Clear (guestAt l g) guestBytes (guestAt l k) guestBytes
+guests-apart l g k a b n = go (decLt g k)
+  where
+    go : Dec (g < k) → Clear (guestAt l g) guestBytes (guestAt l k) guestBytes
+    go (yes h) = left (omega arith)
+    go (no h) = right (omega arith)
+
+guest-slot-apart : (l : Layout) → Sound l → (g j : ℕ) → 1 ≤ g → g ≤ l .guests → Clear (guestAt l g) guestBytes (slotAt l j) slotBytes
+guest-slot-apart l so g j a b = left (omega (arith, so .guests-fit))
+
+module _ (l : Layout) (so : Sound l) (s : List ℕ) (good : wellFormed l s ≡ true) (flags guest vcpu : ℕ) (b : List ℕ) where
+  long : length s ≡ l .size
+  long = formed l s good .long
+
+  -- by where the values of the call start
+  clear-of : (base bytes i n : ℕ) → baseOf l s flags guest vcpu ≡ base → cond (hasBit0 flags) guestBytes slotBytes ≡ bytes → Clear base bytes i n
+      → Clear (baseOf l s flags guest vcpu) (bytesOf (scopeFor (setUse flags))) i n
+  clear-of base bytes i n e q c = subst (λ (x : ℕ). Clear x (bytesOf (scopeFor (setUse flags))) i n) (sym e) (subst (λ (y : ℕ). Clear base y i n) (sym (set-room l s flags guest vcpu b ∙ q)) c)
+
+  module _ (thread : hasBit0 flags ≡ false) where
+    thread-base : baseOf l s flags guest vcpu ≡ slotAt l (slotOf l (header l s) guest vcpu)
+    unfolding baseOf
+    thread-base = simp thread
+
+    thread-bytes : cond (hasBit0 flags) guestBytes slotBytes ≡ slotBytes
+    thread-bytes = simp thread
+
+    pub other-slot : (j : ℕ) → j < l .slots → slotOf l (header l s) guest vcpu ≢ j → bytesAt (setState l s flags guest vcpu b .store) (slotAt l j) slotBytes ≡ bytesAt s (slotAt l j) slotBytes
+    other-slot j k n =
+        set-beside l s flags guest vcpu b (slotAt l j) slotBytes (omega (arith, long, so .whole))
+        (clear-of (slotAt l (slotOf l (header l s) guest vcpu)) slotBytes (slotAt l j) slotBytes thread-base thread-bytes (slots-apart l (slotOf l (header l s) guest vcpu) j n))
+
+    -- a thread set leaves every guest's values
+    pub every-guest : (g : ℕ) → 1 ≤ g → g ≤ l .guests → bytesAt (setState l s flags guest vcpu b .store) (guestAt l g) guestBytes ≡ bytesAt s (guestAt l g) guestBytes
+    every-guest g lo hi =
+        set-beside l s flags guest vcpu b (guestAt l g) guestBytes (omega (arith, long, so .whole, so .guests-fit))
+        (clear-of (slotAt l (slotOf l (header l s) guest vcpu)) slotBytes (guestAt l g) guestBytes thread-base thread-bytes
+        (right (omega (arith, so .guests-fit))))
+
+  module _ (wide : hasBit0 flags ≡ true) where
+    wide-base : baseOf l s flags guest vcpu ≡ guestAt l guest
+    unfolding baseOf
+    wide-base = simp wide
+
+    wide-bytes : cond (hasBit0 flags) guestBytes slotBytes ≡ guestBytes
+    wide-bytes = simp wide
+
+    pub other-guest : (g : ℕ) → 1 ≤ guest → 1 ≤ g → g ≤ l .guests → guest ≢ g → bytesAt (setState l s flags guest vcpu b .store) (guestAt l g) guestBytes ≡ bytesAt s (guestAt l g) guestBytes
+    other-guest g lo′ lo hi n =
+        set-beside l s flags guest vcpu b (guestAt l g) guestBytes (omega (arith, long, so .whole, so .guests-fit))
+        (clear-of (guestAt l guest) guestBytes (guestAt l g) guestBytes wide-base wide-bytes (guests-apart l guest g lo′ lo n))
+
+    -- a guest-wide set leaves every slot's values
+    pub every-slot : (j : ℕ) → 1 ≤ guest → guest ≤ l .guests → j < l .slots → bytesAt (setState l s flags guest vcpu b .store) (slotAt l j) slotBytes ≡ bytesAt s (slotAt l j) slotBytes
+    every-slot j lo hi k =
+        set-beside l s flags guest vcpu b (slotAt l j) slotBytes (omega (arith, long, so .whole))
+        (clear-of (guestAt l guest) guestBytes (slotAt l j) slotBytes wide-base wide-bytes (guest-slot-apart l so guest j lo hi))

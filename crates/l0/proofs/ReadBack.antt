@@ -1,0 +1,157 @@
+-- THEOREM `set-then-get`: a set of one element followed by a get of it gives the value set. Assumes nothing.
+use mathlib.Core.Path.{_≡_, refl, sym, ap, ap₂, _∙_, subst}
+use mathlib.Core.Logic.{_≢_}
+use mathlib.Core.Bool.{Bool, true, false, cond}
+use mathlib.Core.List.{List, [], _++_}
+use Prim.Native.Nat.{ℕ, suc, _+_, _≤_, _<_}
+use native.Mathlib.Omega.{arith}
+use lib.ListN.{length}
+use Rattle.octets.specs.Bytes.{bytesAt, put, be}
+use Rattle.octets.proofs.Bytes.{right, length-put, length-bytesAt, read-back}
+use Rattle.octets.proofs.Numbers.{be-other}
+use Rattle.answer.specs.declared.Fault.{Fault}
+use Rattle.answer.specs.declared.Fault.the-variants.{None, Length, Element}
+use Rattle.elements.specs.declared.Source.{Source}
+use Rattle.elements.specs.declared.Source.the-variants.{Stored}
+use Rattle.elements.specs.declared.Usage.{Usage}
+use Rattle.elements.specs.declared.Usage.the-variants.{GuestGet, GuestSet, ThreadGet, ThreadSet}
+use Rattle.elements.specs.declared.Entry.{Entry}
+use Rattle.elements.specs.declared.Kind.{Kind}
+use Rattle.elements.specs.declared.Kind.the-variants.{Unlisted, Nop, Listed}
+use Rattle.elements.specs.declared.Context.{Context}
+use Rattle.elements.specs.Table.{kindOf, position}
+use Rattle.elements.specs.Rules.{permits, sizeFits, isSetting}
+use Rattle.elements.proofs.Table.{nop-zero, listed-stored, bytesOf}
+use Rattle.elements.proofs.Rules.{permits-listed, setting-stored, size-fits, scopeFor}
+use Rattle.gsb.specs.declared.Walked.{Walked}
+use Rattle.gsb.specs.declared.Walked.the-variants.{Done, Stopped}
+use Rattle.gsb.specs.Walk.{countOf, idAt, sizeAt, nextAt, offsetAt, firstBad}
+use Rattle.gsb.proofs.Judged.{GoodElement, good-element}
+use Rattle.gsb.proofs.First.{accepted-exactly}
+use Rattle.gsb.proofs.Walks.{offset-start}
+use Rattle.store.specs.declared.Layout.{Layout}
+use Rattle.store.specs.Layout.{Sound, guestAt, slotAt}
+use Rattle.store.specs.Header.{header, slotOf}
+use Rattle.store.proofs.Frame.{header-values}
+use Rattle.transfer.specs.Transfer.{valueAt, putFrom, putAs, applied, readFrom, fillAs, filled, Moves, AllReady}
+use Rattle.transfer.proofs.Moving.{moves-fits, fits-stored}
+use Rattle.l0.specs.Refusals.{Outcome, accept, decide, bit0, hasBit0}
+use Rattle.l0.specs.State.{targetTests, baseOf, contextOf, isStopped, faultOf, bufferTests, setState, fillWith, getState}
+use Rattle.l0.proofs.Kept.{Passed, base-values}
+use Rattle.l0.proofs.Lowest.{Real, accepted, no-store, no-flag, no-guest, no-vcpu}
+use Rattle.l0.proofs.States.{setUse, getUse, walked, all-ready, set-room, get-room}
+
+no-length : Length ≡ None → ⊥
+no-length e = let z : _≡_ {A = ℕ} 0 1 = cc in omega arith
+
+stopped-real : (w : Walked) → isStopped w ≡ true → faultOf w ≡ None → ⊥
+stopped-real Done e q = let z : _≡_ {A = ℕ} 0 1 = cc in omega arith
+stopped-real (Stopped bad place) e q = let z : _≡_ {A = ℕ} 0 1 = cc in omega arith
+
+module _ (l : Layout) (s : List ℕ) (flags guest vcpu : ℕ) (b : List ℕ) where
+  all-real : (usage : Usage) → Real (targetTests l s bit0 flags (hasBit0 flags) guest vcpu ++ bufferTests l s usage b)
+  all-real usage = ((λ t. no-store), ((λ t. no-flag _), ((λ t. no-guest), ((λ t. no-vcpu), ((λ t. no-length), (stopped-real (firstBad (contextOf l s usage) b), tt))))))
+
+  set-accepted : setState l s flags guest vcpu b .answer .fault ≡ None
+      → Passed (targetTests l s bit0 flags (hasBit0 flags) guest vcpu ++ bufferTests l s (setUse flags) b) × (setState l s flags guest vcpu b ≡ accept 0 (applied (baseOf l s flags guest vcpu) b (countOf b) s))
+  unfolding setState
+  set-accepted e = accepted s [] (targetTests l s bit0 flags (hasBit0 flags) guest vcpu ++ bufferTests l s (setUse flags) b) (accept 0 (applied (baseOf l s flags guest vcpu) b (countOf b) s)) (all-real (setUse flags)) e
+
+  get-accepted : getState l s flags guest vcpu b .answer .fault ≡ None
+      → Passed (targetTests l s bit0 flags (hasBit0 flags) guest vcpu ++ bufferTests l s (getUse flags) b) × (getState l s flags guest vcpu b ≡ fillWith s (baseOf l s flags guest vcpu) b)
+  unfolding getState
+  get-accepted e = accepted s b (targetTests l s bit0 flags (hasBit0 flags) guest vcpu ++ bufferTests l s (getUse flags) b) (fillWith s (baseOf l s flags guest vcpu) b) (all-real (getUse flags)) e
+
+-- the first element of an accepted buffer that has one
+first-good : (k : Context) (b : List ℕ) → firstBad k b ≡ Done → countOf b ≡ 1 → GoodElement k b 4
+first-good k b d o =
+    subst (GoodElement k b) (sym (offset-start b)) (good-element k b (offsetAt b 0) (offsetAt b (0 + 1)) (accepted-exactly k b .0 d 0 (omega arith)) .0)
+
+-- what a use that sets permits is stored, unless it is a NOP
+settable : (flags : ℕ) → isSetting (setUse flags) ≡ true
+settable flags = go (hasBit0 flags)
+  where
+    go : (t : Bool) → isSetting (cond t GuestSet ThreadSet) ≡ true
+    go true = refl
+    go false = refl
+
+pub record StoredAt (id p : ℕ) : Type 0 where
+  pub entry : Entry
+  pub listed : kindOf id ≡ Listed entry
+  pub stored : entry .source ≡ Stored p
+
+unlisted-off : (k : Context) (id : ℕ) → permits k id Unlisted ≡ true → ⊥
+unfolding permits
+unlisted-off k id h = let z : _≡_ {A = ℕ} 0 1 = cc in omega arith
+
+named : (k : Context) (id : ℕ) → isSetting (k .usage) ≡ true → id ≢ 0 → permits k id (kindOf id) ≡ true → (p : ℕ) × StoredAt id p
+named k id st n e = go (kindOf id) refl e
+  where
+    go : (kind : Kind) → kindOf id ≡ kind → permits k id kind ≡ true → (p : ℕ) × StoredAt id p
+    go Unlisted q h = absurd (unlisted-off k id h)
+    go Nop q h = absurd (n (nop-zero id q))
+    go (Listed x) q h = (position (x .scope) id, record { entry = x; listed = q; stored = listed-stored id x q (setting-stored (k .usage) id x q st (permits-listed k id x h)) })
+
+-- ---- one element stored, and one filled in
+applied-one : (base : ℕ) (b s : List ℕ) (p : ℕ) → StoredAt (idAt b 4) p → countOf b ≡ 1 → applied base b (countOf b) s ≡ put s (base + p) (valueAt b 4)
+unfolding applied putAs putFrom offsetAt
+applied-one base b s p t o =
+    ap (λ (n : ℕ). applied base b n s) o ∙ ap (λ (k : Kind). putAs k base (valueAt b 4) s) (t .listed) ∙ ap (λ (y : Source). putFrom y base (valueAt b 4) s) (t .stored)
+
+filled-one : (base : ℕ) (s c : List ℕ) (p : ℕ) (t : StoredAt (idAt c 4) p) → countOf c ≡ 1 → filled base s c (countOf c) ≡ put c 8 (bytesAt s (base + p) (t .entry .size))
+unfolding filled fillAs readFrom offsetAt
+filled-one base s c p t o =
+    ap (filled base s c) o ∙ ap (λ (k : Kind). fillAs k base s 4 c) (t .listed) ∙ ap (λ (y : Source). put c 8 (readFrom y base (t .entry .size) s)) (t .stored)
+
+-- a value put into the store, read from there and put into a buffer is the value
+through : (b c s : List ℕ) (at size : ℕ) → sizeAt b 4 ≡ size → sizeAt c 4 ≡ size → 8 + size ≤ length b → 8 + size ≤ length c → at + size ≤ length s
+    → valueAt (put c 8 (bytesAt (put s at (valueAt b 4)) at size)) 4 ≡ valueAt b 4
+through b c s at size e f hb hc hs =
+    ap (λ (v : List ℕ). valueAt (put c 8 v) 4) stored ∙ ap (bytesAt (put c 8 (valueAt b 4)) 8) (be-other c 8 (valueAt b 4) 6 2 (right (omega arith)) ∙ f ∙ sym long)
+    ∙ read-back c 8 (valueAt b 4) (omega (arith, long))
+  where
+    long : length (valueAt b 4) ≡ size
+    long = length-bytesAt b 8 (sizeAt b 4) (omega arith) ∙ e
+
+    stored : bytesAt (put s at (valueAt b 4)) at size ≡ valueAt b 4
+    stored = ap (bytesAt (put s at (valueAt b 4)) at) (sym long) ∙ read-back s at (valueAt b 4) (omega (arith, long))
+
+-- the first element's value lies within the store
+first-room : (base len : ℕ) (b : List ℕ) → AllReady base b len → countOf b ≡ 1 → (p : ℕ) (t : StoredAt (idAt b 4) p) → base + p + sizeAt b 4 ≤ len
+unfolding offsetAt
+first-room base len b r o p t =
+    fits-stored (t .entry .source) base (sizeAt b 4) len p (moves-fits (kindOf (idAt b 4)) base (sizeAt b 4) len (t .entry) (r .each 0 (omega arith) .moves) (t .listed)) (t .stored)
+
+-- values start where the header says, and storing a value leaves it
+base-same : (l : Layout) (s t : List ℕ) (flags guest vcpu : ℕ) → header l t ≡ header l s → baseOf l t flags guest vcpu ≡ baseOf l s flags guest vcpu
+unfolding baseOf
+base-same l s t flags guest vcpu e = ap (λ (h : List ℕ). cond (hasBit0 flags) (guestAt l guest) (slotAt l (slotOf l h guest vcpu))) e
+
+module _ (l : Layout) (so : Sound l) (s : List ℕ) (flags guest vcpu : ℕ) (b c : List ℕ) where
+  abbrev after : List ℕ
+  after = setState l s flags guest vcpu b .store
+
+  -- both buffers hold one element, which is no NOP, of one ID
+  pub set-then-get : setState l s flags guest vcpu b .answer .fault ≡ None → countOf b ≡ 1 → idAt b 4 ≢ 0
+      → getState l after flags guest vcpu c .answer .fault ≡ None → countOf c ≡ 1 → idAt c 4 ≡ idAt b 4
+      → valueAt (getState l after flags guest vcpu c .buffer) 4 ≡ valueAt b 4
+  set-then-get eb ob n ec oc i =
+      let x = set-accepted l s flags guest vcpu b eb in
+      let y = get-accepted l after flags guest vcpu c ec in
+      let base = baseOf l s flags guest vcpu in
+      let gb = first-good (contextOf l s (setUse flags)) b (walked l s flags guest vcpu b (setUse flags) (x .0)) ob in
+      let gc = first-good (contextOf l after (getUse flags)) c (walked l after flags guest vcpu c (getUse flags) (y .0)) oc in
+      let found = named (contextOf l s (setUse flags)) (idAt b 4) (settable flags) n (gb .permitted) in
+      let p = found .0 in
+      let t = found .1 in
+      let tc : StoredAt (idAt c 4) p = record { entry = t .entry; listed = ap kindOf i ∙ t .listed; stored = t .stored } in
+      let sb : sizeAt b 4 ≡ t .entry .size = size-fits (idAt b 4) (t .entry) (sizeAt b 4) (t .listed) (gb .sized) in
+      let sc : sizeAt c 4 ≡ t .entry .size = size-fits (idAt c 4) (t .entry) (sizeAt c 4) (tc .listed) (gc .sized) in
+      let st : after ≡ put s (base + p) (valueAt b 4) = ap (λ (o : Outcome). o .store) (x .1) ∙ applied-one base b s p t ob in
+      let room : base + p + t .entry .size ≤ length s = omega (arith, first-room base (length s) b (all-ready l s flags guest vcpu b so (setUse flags) (set-room l s flags guest vcpu b) (x .0)) ob p t, sb) in
+      let hd : header l after ≡ header l s = ap (header l) st ∙ header-values l so s (base + p) (valueAt b 4) (omega (arith, base-values l so s flags guest vcpu)) in
+      let bs : baseOf l after flags guest vcpu ≡ base = base-same l s after flags guest vcpu hd in
+      ap (λ (o : Outcome). valueAt (o .buffer) 4) (y .1)
+      ∙ ap (λ (v : List ℕ). valueAt v 4) (filled-one (baseOf l after flags guest vcpu) after c p tc oc)
+      ∙ ap₂ (λ (u : ℕ) (z : List ℕ). valueAt (put c 8 (bytesAt z (u + p) (t .entry .size))) 4) bs st
+      ∙ through b c s (base + p) (t .entry .size) sb sc (omega (arith, gb .inside, sb)) (omega (arith, gc .inside, sc)) room
