@@ -2,7 +2,7 @@
 use Prim.Native.Nat.{ℕ}
 use mathlib.Core.List.{List}
 use Rattle.answer.specs.declared.Call.{Call}
-use Rattle.answer.specs.declared.Call.the-variants.{Lookup}
+use Rattle.answer.specs.declared.Call.the-variants.{RunVcpu, Lookup}
 use Rattle.answer.specs.declared.Registers.{Registers}
 use Rattle.answer.specs.Answer.{told}
 use Rattle.gsb.specs.declared.Found.{Found as Looked}
@@ -27,6 +27,15 @@ pub record Filled : Type 0 where
 
 abbrev pub fills : Call → Outcome → Filled
 fills c o = record { registers = tells c o; buffer = o .buffer }
+
+-- of a run, which writes both
+pub record Ran : Type 0 where
+  pub registers : Registers
+  pub store : List ℕ
+  pub output : List ℕ
+
+abbrev pub runs : Outcome → Ran
+runs o = record { registers = tells RunVcpu o; store = o .store; output = o .buffer }
 
 -- a lookup's answer and where the part lies
 abbrev pub foundAt : Looked → Found

@@ -9,8 +9,9 @@ ghost use Rattle.answer.specs.Answer.{told};
 ghost use Rattle.store.specs.Layout.{small};
 ghost use Rattle.gsb.specs.Lookup.{lookedUp};
 ghost use Rattle.l0.specs.State.{getState, setState};
+ghost use Rattle.l0.specs.Run.{runVcpu};
 ghost use Rattle.l0.specs.Calls.{freshStore, getCapabilities, setCapabilities, createGuest, createVcpu, deleteGuest, guestClock};
-ghost use Rattle.adderknot.specs.Entries.{Left, leaves, Filled, fills, tells, foundAt};
+ghost use Rattle.adderknot.specs.Entries.{Left, leaves, Filled, fills, Ran, runs, tells, foundAt};
 
 #[no_mangle]
 pub extern "C" fn adk_fresh_store(store: &mut [u8]) -> Registers
@@ -79,6 +80,34 @@ pub extern "C" fn adk_set_state(
     registers_of(
         Call::SetState,
         l0::set_state(store, flags, guest, vcpu, buffer),
+    )
+}
+
+#[no_mangle]
+pub extern "C" fn adk_run_vcpu(
+    store: &mut [u8],
+    flags: u64,
+    guest: u64,
+    vcpu: u64,
+    input: &[u8],
+    output: &mut [u8],
+    effect: &[u8],
+    exit_reason: u64,
+) -> Registers
+    ensures { λ r. ⌜ _≡_ {A = Ran} (record { registers = r; store = now (store .exit); output = now (output .exit) }) (runs (runVcpu small (now (store .entry)) flags guest vcpu (now (input .entry)) (now (output .entry)) (now (effect .entry)) «exit_reason»)) ⌝ }
+{
+    registers_of(
+        Call::RunVcpu,
+        l0::run_vcpu(
+            store,
+            flags,
+            guest,
+            vcpu,
+            input,
+            output,
+            effect,
+            exit_reason,
+        ),
     )
 }
 

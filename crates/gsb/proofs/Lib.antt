@@ -3,3 +3,4 @@ pub mod Judged
 pub mod Walks
 pub mod Lookups
 pub mod First
+pub mod Messages

@@ -1,6 +1,7 @@
-// The guest state buffer: one element judged, the walk over all that are counted, and the lookup.
+// The guest state buffer: one element judged, the walk over all that are counted, the lookup, and one element written.
 mod find;
 mod walk;
+mod write;
 
 use answer::Answer;
 use answer::Bad;
@@ -10,6 +11,7 @@ pub use find::lookup_value;
 pub use walk::bad_length;
 pub use walk::first_bad;
 pub use walk::judge;
+pub use write::put_element;
 
 // An element: good, with the offset of the next, or what is wrong with it.
 pub enum Verdict {

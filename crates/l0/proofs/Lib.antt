@@ -1,8 +1,6 @@
 pub mod FirstTests
-pub mod Answers
-pub mod Kept
-pub mod Lowest
+pub mod Judging
+mod Answers
 pub mod Targets
 pub mod Buffers
-pub mod States
-pub mod ReadBack
+pub mod Runs

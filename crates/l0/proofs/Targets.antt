@@ -1,46 +1,42 @@
--- The tests 1 to 4 of get and set state, in the form of the code's needs, and what they make of a call that begins with them.
--- Assumes nothing.
-use mathlib.Core.Path.{_≡_, refl, sym, ap, ap₂, _∙_, subst}
+-- The tests 1 to 4 of a call that names a guest or a vCPU, in the form of the code's needs. Assumes nothing.
+use mathlib.Core.Path.{_≡_, refl, sym, ap, _∙_, subst}
 use mathlib.Core.Bool.{Bool, true, false, not, _&&_, cond}
 use mathlib.Core.List.{List, [], _∷_, _++_}
-use Prim.Native.Nat.{ℕ, _+_, _/_, _^_, _≤_, _<_}
+use Prim.Native.Nat.{ℕ, _+_, _^_, _≤_, _<_}
 use native.Mathlib.Omega.{arith}
-use lib.Dec.{eqb, leb}
+use lib.Dec.{leb}
 use lib.ListN.{length}
-use borrow.Author.Tests.{eq-eqb, ne-eqb, le-leb, lt-leb, not-true, not-false}
+use borrow.Author.Tests.{le-leb, lt-leb}
 use Rattle.answer.specs.declared.Fault.{Fault}
 use Rattle.answer.specs.declared.Fault.the-variants.{Guest, Vcpu}
 use Rattle.answer.specs.Refusals.{firstOf}
-use Rattle.elements.specs.declared.Usage.{Usage}
 use Rattle.store.specs.declared.Layout.{Layout}
 use Rattle.store.specs.Layout.{Sound, guestBytes, slotBytes, guestAt, slotAt}
 use Rattle.store.specs.Header.{header, live, slotOf}
 use Rattle.l0.specs.declared.Admission.{Admission}
 use Rattle.l0.specs.declared.Admission.the-variants.{Admitted, Refused}
 use Rattle.l0.specs.declared.Target.{Target}
-use Rattle.l0.specs.declared.Target.the-variants.{Turned, Wide, Slot}
-use Rattle.l0.specs.Refusals.{Outcome, admission, bit0, hasBit0}
+use Rattle.l0.specs.declared.Target.the-variants.{Turned, At}
+use Rattle.l0.specs.Refusals.{admission, judgement}
 use Rattle.l0.specs.State.{targetTests, baseOf, targetOf, Held}
 use Rattle.l0.proofs.FirstTests.{refused, past, admitted, past-long}
+use Rattle.l0.proofs.Judging.{was-refused, was-admitted}
 
 -- ---- the answers of `target_of`
-module _ (l : Layout) (s : List ℕ) (flags guest vcpu : ℕ) (a : Admission) (q : a ≡ admission l s (2 ^ 63) flags) where
-  found : Target
-  found = cond (hasBit0 flags) (Wide (guestAt l guest)) (Slot (slotAt l (slotOf l (header l s) guest vcpu)))
-
+module _ (l : Layout) (s : List ℕ) (supported flags : ℕ) (wide : Bool) (guest vcpu : ℕ) (a : Admission) (q : a ≡ admission l s supported flags) where
   rest : Target
-  rest = cond (not (live l (header l s) guest)) (Turned Guest) (cond (not (hasBit0 flags) && leb (l .slots) (slotOf l (header l s) guest vcpu)) (Turned Vcpu) found)
+  rest = cond (not (live l (header l s) guest)) (Turned Guest) (cond (not wide && leb (l .slots) (slotOf l (header l s) guest vcpu)) (Turned Vcpu) (At (baseOf l s wide guest vcpu)))
 
-  pub target-refused : (f : Fault) → a ≡ Refused f → Turned f ≡ targetOf l s flags guest vcpu
-  unfolding targetOf rest found
-  target-refused f h = sym (refused l s (2 ^ 63) flags Turned rest a f q h)
+  pub target-refused : (f : Fault) → a ≡ Refused f → Turned f ≡ targetOf l s supported flags wide guest vcpu
+  unfolding targetOf rest
+  target-refused f h = sym (refused l s supported flags Turned rest a f q h)
 
   module _ (h : a ≡ Admitted) (x : Bool) (o : x ≡ live l (header l s) guest) where
-    target-past : targetOf l s flags guest vcpu ≡ rest
-    unfolding targetOf rest found
-    target-past = admitted l s (2 ^ 63) flags Turned rest (past l s (2 ^ 63) flags a q h)
+    target-past : targetOf l s supported flags wide guest vcpu ≡ rest
+    unfolding targetOf rest
+    target-past = admitted l s supported flags Turned rest (past l s supported flags a q h)
 
-    pub target-dead : not x ≡ true → Turned Guest ≡ targetOf l s flags guest vcpu
+    pub target-dead : not x ≡ true → Turned Guest ≡ targetOf l s supported flags wide guest vcpu
     unfolding rest
     target-dead n =
         let m : not (live l (header l s) guest) ≡ true = ap not (sym o) ∙ n in
@@ -50,46 +46,70 @@ module _ (l : Layout) (s : List ℕ) (flags guest vcpu : ℕ) (a : Admission) (q
       alive : not (live l (header l s) guest) ≡ false
       alive = ap not (sym o) ∙ n
 
-      pub target-wide : (p : ℕ) → flags / 2 ^ 63 ≡ 1 → p ≡ guestAt l guest → Wide p ≡ targetOf l s flags guest vcpu
-      unfolding rest found
-      target-wide p w e = ap Wide e ∙ sym (target-past ∙ simp (alive, eq-eqb _ _ w))
+      pub target-wide : (p : ℕ) → wide ≡ true → p ≡ guestAt l guest → At p ≡ targetOf l s supported flags wide guest vcpu
+      unfolding rest baseOf
+      target-wide p w e = ap At e ∙ sym (target-past ∙ simp (alive, w))
 
-      module _ (w : flags / 2 ^ 63 ≡ 1 → ⊥) (j : ℕ) (e : j ≡ slotOf l (header l s) guest vcpu) where
-        pub target-absent : l .slots ≤ j → Turned Vcpu ≡ targetOf l s flags guest vcpu
-        unfolding rest found
+      module _ (w : wide ≡ false) (j : ℕ) (e : j ≡ slotOf l (header l s) guest vcpu) where
+        pub target-absent : l .slots ≤ j → Turned Vcpu ≡ targetOf l s supported flags wide guest vcpu
+        unfolding rest
         target-absent k =
             let m : l .slots ≤ slotOf l (header l s) guest vcpu = omega arith in
-            sym (target-past ∙ simp (alive, ne-eqb _ _ w, le-leb _ _ m))
+            sym (target-past ∙ simp (alive, w, le-leb _ _ m))
 
-        pub target-slot : (p : ℕ) → j < l .slots → p ≡ slotAt l j → Slot p ≡ targetOf l s flags guest vcpu
-        unfolding rest found
+        pub target-slot : (p : ℕ) → j < l .slots → p ≡ slotAt l j → At p ≡ targetOf l s supported flags wide guest vcpu
+        unfolding rest baseOf
         target-slot p k f =
             let m : slotOf l (header l s) guest vcpu < l .slots = omega arith in
-            ap Slot (f ∙ ap (slotAt l) e) ∙ sym (target-past ∙ simp (alive, ne-eqb _ _ w, lt-leb _ _ m))
+            ap At (f ∙ ap (slotAt l) e) ∙ sym (target-past ∙ simp (alive, w, lt-leb _ _ m))
 
--- a target that was found: its values lie within the store
-pub held-size-wide : (t : Target) (l : Layout) (len p : ℕ) → Held t l len → t ≡ Wide p → (len ≡ l .size) × (p + guestBytes ≤ l .size)
-held-size-wide t l len p h e = subst (λ (x : Target). Held x l len) e h
+-- that its values lie within the store
+pub held-wide : (l : Layout) (wide : Bool) (len base : ℕ) → len ≡ l .size → wide ≡ true → base + guestBytes ≤ l .«slots_at» → Sound l → Held (At base) wide l len
+held-wide l wide len base e w h so =
+    let q : cond wide guestBytes slotBytes ≡ guestBytes = ap (λ (t : Bool). cond t guestBytes slotBytes) w in
+    (e, omega (arith, q, so .whole))
 
-pub held-size-slot : (t : Target) (l : Layout) (len p : ℕ) → Held t l len → t ≡ Slot p → (len ≡ l .size) × (p + slotBytes ≤ l .size)
-held-size-slot t l len p h e = subst (λ (x : Target). Held x l len) e h
+pub held-slot : (l : Layout) (wide : Bool) (len base : ℕ) → len ≡ l .size → wide ≡ false → base + slotBytes ≤ l .size → Held (At base) wide l len
+held-slot l wide len base e w h =
+    let q : cond wide guestBytes slotBytes ≡ slotBytes = ap (λ (t : Bool). cond t guestBytes slotBytes) w in
+    (e, omega (arith, q))
 
--- ---- tests that begin with xs, which `targetOf` took: `turn` makes a refusal of xs a target
-module _ {A B : Type 0} (turn : Fault → A) (refuse : Fault → B) (o : B) (ys : List (Bool × Fault)) where
-  pub begin-refused : (xs : List (Bool × Fault)) (good : A) → ((f g : Fault) → turn f ≡ turn g → f ≡ g) → (f : Fault) → (good ≡ turn f → ⊥) → firstOf turn xs good ≡ turn f → firstOf refuse (xs ++ ys) o ≡ refuse f
-  begin-refused [] good inj f n e = absurd (n e)
-  begin-refused (x ∷ xs) good inj f n e = go (x .0) e (begin-refused xs good inj f n)
+-- ---- what callers learn
+turned-same : (f g : Fault) → Turned f ≡ Turned g → f ≡ g
+turned-same f g e = cc
+
+turned-not : {base : ℕ} (f : Fault) → At base ≡ Turned f → ⊥
+turned-not f e = let z : _≡_ {A = ℕ} 0 1 = cc in omega arith
+
+found-not : {base : ℕ} (f : Fault) → Turned f ≡ At base → ⊥
+found-not f e = let z : _≡_ {A = ℕ} 0 1 = cc in omega arith
+
+module _ (l : Layout) (s : List ℕ) (supported flags : ℕ) (wide : Bool) (guest vcpu : ℕ) (a : Target) (q : a ≡ targetOf l s supported flags wide guest vcpu) where
+  pub target-judged : (f : Fault) → a ≡ Turned f → judgement (targetTests l s supported flags wide guest vcpu) ≡ Refused f
+  unfolding targetOf
+  target-judged f h = was-refused Turned turned-same (At (baseOf l s wide guest vcpu)) turned-not (targetTests l s supported flags wide guest vcpu) f (sym q ∙ h)
+
+  pub target-found : (base : ℕ) → a ≡ At base → (judgement (targetTests l s supported flags wide guest vcpu) ≡ Admitted) × (baseOf l s wide guest vcpu ≡ base)
+  unfolding targetOf
+  target-found base h =
+      let p = was-admitted Turned turned-same (At (baseOf l s wide guest vcpu)) turned-not (targetTests l s supported flags wide guest vcpu) (At base) found-not (sym q ∙ h) in
+      (p .0, at-same (p .1))
     where
-      go : (t : Bool) → cond t (turn (x .1)) (firstOf turn xs good) ≡ turn f → (firstOf turn xs good ≡ turn f → firstOf refuse (xs ++ ys) o ≡ refuse f)
-          → cond t (refuse (x .1)) (firstOf refuse (xs ++ ys) o) ≡ refuse f
-      go true q ih = ap refuse (inj (x .1) f q)
-      go false q ih = ih q
+      at-same : {x y : ℕ} → At x ≡ At y → x ≡ y
+      at-same e = cc
 
-  pub begin-passed : (xs : List (Bool × Fault)) (good g : A) → ((f : Fault) → turn f ≡ g → ⊥) → firstOf turn xs good ≡ g → (firstOf refuse (xs ++ ys) o ≡ firstOf refuse ys o) × (good ≡ g)
-  begin-passed [] good g n e = (refl, e)
-  begin-passed (x ∷ xs) good g n e = go (x .0) e (begin-passed xs good g n)
-    where
-      go : (t : Bool) → cond t (turn (x .1)) (firstOf turn xs good) ≡ g → (firstOf turn xs good ≡ g → (firstOf refuse (xs ++ ys) o ≡ firstOf refuse ys o) × (good ≡ g))
-          → (cond t (refuse (x .1)) (firstOf refuse (xs ++ ys) o) ≡ firstOf refuse ys o) × (good ≡ g)
-      go true q ih = absurd (n (x .1) q)
-      go false q ih = ih q
+pub held-size : (t : Target) (wide : Bool) (l : Layout) (len base : ℕ) → Held t wide l len → t ≡ At base → len ≡ l .size
+held-size t wide l len base h e = subst (λ (x : Target). Held x wide l len) e h .0
+
+pub held-room : (t : Target) (wide : Bool) (l : Layout) (len base : ℕ) → Held t wide l len → t ≡ At base → base + cond wide guestBytes slotBytes ≤ l .size
+held-room t wide l len base h e = subst (λ (x : Target). Held x wide l len) e h .1
+
+-- of a vCPU
+pub held-vcpu : (t : Target) (l : Layout) (len base : ℕ) → Held t false l len → t ≡ At base → base + slotBytes ≤ len
+held-vcpu t l len base h e = omega (arith, held-size t false l len base h e, held-room t false l len base h e)
+
+pub held-fits : (t : Target) (l : Layout) (len base : ℕ) → Held t false l len → t ≡ At base → len < 2 ^ 64 → base + 8 < 2 ^ 64
+held-fits t l len base h e f = omega (arith, held-vcpu t l len base h e)
+
+pub held-inside : (t : Target) (l : Layout) (len base : ℕ) → Held t false l len → t ≡ At base → base + 8 + 8 ≤ len
+held-inside t l len base h e = omega (arith, held-vcpu t l len base h e)

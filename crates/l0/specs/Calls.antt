@@ -13,6 +13,7 @@ use Rattle.store.specs.Layout.{guestAt}
 use Rattle.store.specs.Header.{header, outside, offered, live, slotOf, freeSlot, freeGuest}
 use Rattle.store.specs.Store.{fresh, putCapabilities, withGuest, withVcpu, withoutGuest, withoutGuests}
 use Rattle.l0.specs.State.{getState, setState}
+use Rattle.l0.specs.Run.{runVcpu}
 use Rattle.l0.specs.Refusals.{Outcome, accept, decide, malformed, unsupported, notLive, bit0, hasBit0}
 
 -- 01, "The store": "A fresh store is all zeros; a buffer of another length is 1."
@@ -69,6 +70,7 @@ pub data Call : Type 0 where
   CreateVcpu : ℕ → ℕ → ℕ → Call
   GetState : ℕ → ℕ → ℕ → List ℕ → Call
   SetState : ℕ → ℕ → ℕ → List ℕ → Call
+  RunVcpu : ℕ → ℕ → ℕ → List ℕ → List ℕ → List ℕ → ℕ → Call
   DeleteGuest : ℕ → ℕ → Call
   GuestClock : ℕ → ℕ → Call
 
@@ -79,6 +81,7 @@ outcome l s (CreateGuest flags token) = createGuest l s flags token
 outcome l s (CreateVcpu flags guest vcpu) = createVcpu l s flags guest vcpu
 outcome l s (GetState flags guest vcpu buffer) = getState l s flags guest vcpu buffer
 outcome l s (SetState flags guest vcpu buffer) = setState l s flags guest vcpu buffer
+outcome l s (RunVcpu flags guest vcpu input output effect exit) = runVcpu l s flags guest vcpu input output effect exit
 outcome l s (DeleteGuest flags guest) = deleteGuest l s flags guest
 outcome l s (GuestClock guest timebase) = guestClock l s guest timebase
 

@@ -50,9 +50,13 @@ unsupported supported flags = (not (eqb (outside supported flags) 0), Flag (lead
 abbrev pub notLive : Layout → List ℕ → ℕ → Bool × Fault
 notLive l s g = (not (live l (header l s) g), Guest)
 
+-- the answer of a function that only tests
+abbrev pub judgement : List (Bool × Fault) → Admission
+judgement tests = firstOf Refused tests Admitted
+
 -- the first two, which every call with flags begins with
 unfoldable pub admission : Layout → List ℕ → ℕ → ℕ → Admission
-admission l s supported flags = firstOf Refused (malformed l s ∷ unsupported supported flags ∷ []) Admitted
+admission l s supported flags = judgement (malformed l s ∷ unsupported supported flags ∷ [])
 
 -- bit 0 of 64, and whether a flag word has it, which may have no bit before it
 abbrev pub bit0 : ℕ

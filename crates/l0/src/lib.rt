@@ -3,6 +3,7 @@ mod capabilities;
 mod clock;
 mod early;
 mod guests;
+mod run;
 mod state;
 
 use answer::Fault;
@@ -13,6 +14,7 @@ pub use clock::guest_clock;
 pub use guests::create_guest;
 pub use guests::create_vcpu;
 pub use guests::delete_guest;
+pub use run::run_vcpu;
 pub use state::get_state;
 pub use state::set_state;
 
@@ -22,9 +24,14 @@ pub enum Admission {
     Refused(Fault),
 }
 
-// What a get or set works on: where the values of a guest or of a slot start; or a refusal by the tests before.
+// What a call works on: where the values of a guest or of a vCPU start; or a refusal by the tests before.
 pub enum Target {
     Turned(Fault),
-    Wide(usize),
-    Slot(usize),
+    At(usize),
+}
+
+// What a run works on: where the vCPU's values start, and how many bytes of the lent input count; or a refusal.
+pub enum Spot {
+    Off(Fault),
+    Slot(usize, usize),
 }

@@ -25,16 +25,27 @@ ghost use mathlib.Core.List.{[]};
 ghost use Prim.Native.Nat.{_+_, _≤_};
 ghost use lib.ListN.{length};
 ghost use Rattle.store.specs.Layout.{Sound, small};
-ghost use Rattle.l0.specs.Refusals.{Outcome};
-ghost use Rattle.l0.specs.State.{targetOf, setAt, setState, getAt, getState, bytesFor, Held};
+ghost use Rattle.l0.specs.Refusals.{Outcome, hasBit0};
+ghost use Rattle.l0.specs.State.{targetOf, bufferGood, setUse, setAt, setState, getUse, getAt, getState, bytesFor, Held};
+
+// Guest-wide.
+const BIT_0: u64 = 0x8000_0000_0000_0000;
 
 // The tests 1 to 4, and where the values of the guest or the vCPU start.
-fn target_of(store: &[u8], l: Layout, flags: u64, guest: usize, vcpu: usize) -> Target
+pub fn target_of(
+    store: &[u8],
+    l: Layout,
+    supported: u64,
+    flags: u64,
+    wide: bool,
+    guest: usize,
+    vcpu: usize,
+) -> Target
     requires { ⌜ Sound l ⌝ }
-    ensures { λ r. ⌜ r ≡ targetOf l (now (store .entry)) flags guest vcpu ⌝ }
-    ensures { λ r. ⌜ Held r l (length (now (store .entry))) ⌝ }
+    ensures { λ r. ⌜ r ≡ targetOf l (now (store .entry)) supported flags wide guest vcpu ⌝ }
+    ensures { λ r. ⌜ Held r wide l (length (now (store .entry))) ⌝ }
 {
-    let admission = admit(store, l, 0x8000_0000_0000_0000, flags);
+    let admission = admit(store, l, supported, flags);
     match admission {
         Admission::Refused(fault) => return Target::Turned(fault),
         Admission::Admitted => {}
@@ -42,30 +53,57 @@ fn target_of(store: &[u8], l: Layout, flags: u64, guest: usize, vcpu: usize) -> 
     if !is_live(store, l, guest) {
         return Target::Turned(Fault::Guest);
     }
-    if flags / 0x8000_0000_0000_0000 == 1 {
-        return Target::Wide(guest_at(l, guest));
+    if wide {
+        return Target::At(guest_at(l, guest));
     }
     let slot = slot_of(store, l, guest, vcpu);
     if l.slots <= slot {
         return Target::Turned(Fault::Vcpu);
     }
-    Target::Slot(slot_at(l, slot))
+    Target::At(slot_at(l, slot))
 }
 
-fn set_at(store: &mut [u8], l: Layout, base: usize, usage: Usage, buffer: &[u8]) -> Answer
-    requires { ⌜ Sound l × (length (now store) ≡ l .size) × (base + bytesFor usage ≤ l .size) ⌝ }
-    ensures { λ r. ⌜ _≡_ {A = Outcome} (record { answer = r; store = now (store .exit); buffer = [] }) (setAt l (now (store .entry)) base usage (now (buffer .entry))) ⌝ }
+// 5, then the elements.
+fn judge_buffer(store: &[u8], l: Layout, usage: Usage, buffer: &[u8]) -> Admission
+    requires { ⌜ Sound l × (length (now store) ≡ l .size) ⌝ }
+    ensures { λ r. ⌜ r ≡ bufferGood l (now (store .entry)) usage (now (buffer .entry)) ⌝ }
 {
     if bad_length(buffer) {
-        return refusal(Fault::Length);
+        return Admission::Refused(Fault::Length);
     }
     let k = Context {
         usage,
         capabilities: capabilities_of(store, l),
     };
     match first_bad(buffer, k) {
-        Walked::Stopped(bad, place) => return refusal(Fault::Element(bad, place)),
-        Walked::Done => {}
+        Walked::Stopped(bad, place) => Admission::Refused(Fault::Element(bad, place)),
+        Walked::Done => Admission::Admitted,
+    }
+}
+
+// Bit 0: guest-wide.
+fn is_wide(flags: u64) -> bool
+    ensures { λ r. ⌜ r ≡ hasBit0 flags ⌝ }
+{
+    flags / 0x8000_0000_0000_0000 == 1
+}
+
+fn set_use(wide: bool) -> Usage
+    ensures { λ r. ⌜ r ≡ setUse wide ⌝ }
+{
+    if wide {
+        return Usage::GuestSet;
+    }
+    Usage::ThreadSet
+}
+
+fn set_at(store: &mut [u8], l: Layout, base: usize, usage: Usage, buffer: &[u8]) -> Answer
+    requires { ⌜ Sound l × (length (now store) ≡ l .size) × (base + bytesFor usage ≤ l .size) ⌝ }
+    ensures { λ r. ⌜ _≡_ {A = Outcome} (record { answer = r; store = now (store .exit); buffer = [] }) (setAt l (now (store .entry)) base usage (now (buffer .entry))) ⌝ }
+{
+    match judge_buffer(store, l, usage, buffer) {
+        Admission::Refused(fault) => return refusal(fault),
+        Admission::Admitted => {}
     }
     apply(store, base, buffer);
     success(0)
@@ -76,28 +114,30 @@ pub fn set_state(store: &mut [u8], flags: u64, guest: u64, vcpu: u64, buffer: &[
     ensures { λ r. ⌜ _≡_ {A = Outcome} (record { answer = r; store = now (store .exit); buffer = [] }) (setState small (now (store .entry)) flags guest vcpu (now (buffer .entry))) ⌝ }
 {
     let l = small_layout();
-    let target = target_of(store, l, flags, guest as usize, vcpu as usize);
+    let wide = is_wide(flags);
+    let target = target_of(store, l, BIT_0, flags, wide, guest as usize, vcpu as usize);
     match target {
         Target::Turned(fault) => refusal(fault),
-        Target::Wide(base) => set_at(store, l, base, Usage::GuestSet, buffer),
-        Target::Slot(base) => set_at(store, l, base, Usage::ThreadSet, buffer),
+        Target::At(base) => set_at(store, l, base, set_use(wide), buffer),
     }
+}
+
+fn get_use(wide: bool) -> Usage
+    ensures { λ r. ⌜ r ≡ getUse wide ⌝ }
+{
+    if wide {
+        return Usage::GuestGet;
+    }
+    Usage::ThreadGet
 }
 
 fn get_at(store: &[u8], l: Layout, base: usize, usage: Usage, buffer: &mut [u8]) -> Answer
     requires { ⌜ Sound l × (length (now store) ≡ l .size) × (base + bytesFor usage ≤ l .size) ⌝ }
     ensures { λ r. ⌜ _≡_ {A = Outcome} (record { answer = r; store = now (store .entry); buffer = now (buffer .exit) }) (getAt l (now (store .entry)) base usage (now (buffer .entry))) ⌝ }
 {
-    if bad_length(buffer) {
-        return refusal(Fault::Length);
-    }
-    let k = Context {
-        usage,
-        capabilities: capabilities_of(store, l),
-    };
-    match first_bad(buffer, k) {
-        Walked::Stopped(bad, place) => return refusal(Fault::Element(bad, place)),
-        Walked::Done => {}
+    match judge_buffer(store, l, usage, buffer) {
+        Admission::Refused(fault) => return refusal(fault),
+        Admission::Admitted => {}
     }
     fill(store, base, buffer);
     success(0)
@@ -108,10 +148,10 @@ pub fn get_state(store: &[u8], flags: u64, guest: u64, vcpu: u64, buffer: &mut [
     ensures { λ r. ⌜ _≡_ {A = Outcome} (record { answer = r; store = now (store .entry); buffer = now (buffer .exit) }) (getState small (now (store .entry)) flags guest vcpu (now (buffer .entry))) ⌝ }
 {
     let l = small_layout();
-    let target = target_of(store, l, flags, guest as usize, vcpu as usize);
+    let wide = is_wide(flags);
+    let target = target_of(store, l, BIT_0, flags, wide, guest as usize, vcpu as usize);
     match target {
         Target::Turned(fault) => refusal(fault),
-        Target::Wide(base) => get_at(store, l, base, Usage::GuestGet, buffer),
-        Target::Slot(base) => get_at(store, l, base, Usage::ThreadGet, buffer),
+        Target::At(base) => get_at(store, l, base, get_use(wide), buffer),
     }
 }

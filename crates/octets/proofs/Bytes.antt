@@ -54,6 +54,9 @@ pub part-lent : (s : List ℕ) (i n : ℕ) → take n (drop i s) ≡ bytesAt s i
 unfolding bytesAt
 part-lent s i n = refl
 
+pub first-lent : (s : List ℕ) (n : ℕ) → take (n - 0) (drop 0 s) ≡ bytesAt s 0 n
+first-lent s n = let e : n - 0 ≡ n = omega arith in ap (λ (m : ℕ). take m (drop 0 s)) e ∙ part-lent s 0 n
+
 pub part-none : (s : List ℕ) (i : ℕ) → bytesAt s i 0 ≡ []
 unfolding bytesAt
 part-none s i = refl

@@ -137,3 +137,11 @@ pub fn clear(dst: &mut [u8], at: usize, n: usize)
         i += 1;
     }
 }
+
+// The first bytes of a lent slice.
+pub fn first_bytes<'a>(b: &'a [u8], n: usize) -> &'a [u8]
+    requires { ⌜ n ≤ length (now b) ⌝ }
+    ensures { λ r. ⌜ now r ≡ bytesAt (now (b .entry)) 0 n ⌝ }
+{
+    &b[0..n]
+}

@@ -1,7 +1,6 @@
 -- By how far the tests came: the laws `target-..` of Targets.
-use native.Mathlib.Omega.{arith}
 use Rattle.l0.proofs.FirstTests.{past-long, live-some, live-few}
-use Rattle.l0.proofs.Targets.{target-refused, target-dead, target-wide, target-absent, target-slot}
+use Rattle.l0.proofs.Targets.{target-refused, target-dead, target-wide, target-absent, target-slot, held-wide, held-slot}
 use borrow.Author.Needs.{needs}
 use Rattle.l0.proofs.state.target_of.Statement.{statement}
 use Rattle.l0.proofs.state.target_of.Tie as tie
@@ -28,7 +27,7 @@ guest-at-requires : tie.Need-guest-at-requires
 guest-at-requires c κs = (search needs, search (needs, live-some), search (needs, live-few))
 
 returns-3 : tie.Need-returns-3
-returns-3 c = (search (needs, target-wide), (past-long _ _ _ _ _ (c .before .before .before .before .before .before .admit .ensures) (c .before .before .before .before .enum-told .given .1), omega (arith, c .guest-at .ensures .2, c .before .before .before .before .before .before .before .before .pre .whole)))
+returns-3 c = (search (needs, target-wide), search (needs, held-wide, past-long))
 
 slot-of-requires : tie.Need-slot-of-requires
 slot-of-requires c κs = (search needs, search (needs, past-long))
@@ -40,7 +39,7 @@ slot-at-requires : tie.Need-slot-at-requires
 slot-at-requires c κs = search needs
 
 returns-5 : tie.Need-returns-5
-returns-5 c = (search (needs, target-slot), (past-long _ _ _ _ _ (c .before .before .before .before .before .before .before .before .before .admit .ensures) (c .before .before .before .before .before .before .before .enum-told .given .1), c .slot-at .ensures .2))
+returns-5 c = (search (needs, target-slot), search (needs, held-slot, past-long))
 
 pub target-of-spec : {M : Type 1} → statement M
 target-of-spec =

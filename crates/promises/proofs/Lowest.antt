@@ -18,9 +18,9 @@ use Rattle.store.specs.Store.{wellFormed, withoutGuest}
 use Rattle.store.proofs.Search.{first-found, first-bounds, first-le}
 use Rattle.store.proofs.Tests.{live-parts}
 use Rattle.store.proofs.Kept.{deleted-live, deleted-slot}
 use Rattle.l0.specs.Refusals.{Outcome, accept, refuse, decide}
 use Rattle.l0.specs.Calls.{createGuest, createVcpu}
-use Rattle.l0.proofs.Kept.{Passed}
+use Rattle.l0.proofs.Judging.{Passed}
 
 -- no test that holds has success for its fault
 abbrev pub Real : List (Bool × Fault) → Type 0

@@ -26,14 +26,11 @@ use Rattle.elements.specs.declared.Kind.the-variants.{Unlisted, Nop, Listed}
 use Rattle.elements.specs.Table.{kindOf}
 use Rattle.gsb.specs.Walk.{countOf, idAt, offsetAt}
 use Rattle.transfer.specs.Transfer.{valueAt, putFrom, putAs, applied}
 use Rattle.l0.specs.Refusals.{Outcome, accept, refuse, decide, hasBit0}
-use Rattle.l0.specs.Calls.{freshStore, getCapabilities, setCapabilities, createGuest, createVcpu, deleteGuest, guestClock, Call, GetCapabilities, SetCapabilities, CreateGuest, CreateVcpu, GetState, SetState, DeleteGuest, GuestClock, outcome, after}
+use Rattle.l0.specs.Calls.{freshStore, getCapabilities, setCapabilities, createGuest, createVcpu, deleteGuest, guestClock, Call, GetCapabilities, SetCapabilities, CreateGuest, CreateVcpu, GetState, SetState, RunVcpu, DeleteGuest, GuestClock, outcome, after}
 use Rattle.l0.specs.State.{baseOf, getState, setState}
-
--- no test of the refusals holds
-abbrev pub Passed : List (Bool × Fault) → Type 0
-Passed [] = Unit {0}
-Passed (x ∷ xs) = (x .0 ≡ false) × Passed xs
+use Rattle.l0.specs.Run.{inputOf, runVcpu, ran, ranStore}
+use Rattle.l0.proofs.Judging.{Passed}
 
 -- P of a call: P of each refusal, and of what it does where no test holds
 pub decided : (P : Outcome → Type 0) (s b : List ℕ) (tests : List (Bool × Fault)) (o : Outcome) → ((f : Fault) → P (refuse s b f)) → (Passed tests → P o) → P (decide s b tests o)
@@ -65,17 +62,19 @@ lent (CreateGuest flags token) = []
 lent (CreateVcpu flags guest vcpu) = []
 lent (GetState flags guest vcpu buffer) = buffer
 lent (SetState flags guest vcpu buffer) = []
+lent (RunVcpu flags guest vcpu input output effect exit) = output
 lent (DeleteGuest flags guest) = []
 lent (GuestClock guest timebase) = []
 
 pub refused-unchanged : (l : Layout) (s : List ℕ) (c : Call) → Unchanged s (lent c) (outcome l s c)
-unfolding outcome getCapabilities setCapabilities createGuest createVcpu getState setState deleteGuest guestClock
+unfolding outcome getCapabilities setCapabilities createGuest createVcpu getState setState runVcpu ran deleteGuest guestClock
 refused-unchanged l s (GetCapabilities flags) = decided (Unchanged s []) s [] _ _ (kept s []) (λ p. done s [] _ refl)
 refused-unchanged l s (SetCapabilities flags bitmap) = decided (Unchanged s []) s [] _ _ (kept s []) (λ p. done s [] _ refl)
 refused-unchanged l s (CreateGuest flags token) = decided (Unchanged s []) s [] _ _ (kept s []) (λ p. done s [] _ refl)
 refused-unchanged l s (CreateVcpu flags guest vcpu) = decided (Unchanged s []) s [] _ _ (kept s []) (λ p. done s [] _ refl)
 refused-unchanged l s (GetState flags guest vcpu buffer) = decided (Unchanged s buffer) s buffer _ _ (kept s buffer) (λ p. done s buffer _ refl)
 refused-unchanged l s (SetState flags guest vcpu buffer) = decided (Unchanged s []) s [] _ _ (kept s []) (λ p. done s [] _ refl)
+refused-unchanged l s (RunVcpu flags guest vcpu input output effect exit) = decided (Unchanged s output) s output _ _ (kept s output) (λ p. done s output _ refl)
 refused-unchanged l s (DeleteGuest flags guest) = decided (Unchanged s []) s [] _ _ (kept s []) (λ p. done s [] _ refl)
 refused-unchanged l s (GuestClock guest timebase) = decided (Unchanged s []) s [] _ _ (kept s []) (λ p. done s [] _ refl)
 
@@ -95,18 +94,15 @@ stored-kept l so (Listed x) base v s k = go (x .source)
     go (Fixed n) = refl
     go (Stored p) = formed-values l so s (base + p) v (omega arith)
 
-applied-kept : (l : Layout) → Sound l → (base : ℕ) (b : List ℕ) (n : ℕ) (s : List ℕ) → l .«guests_at» ≤ base → wellFormed l (applied base b n s) ≡ wellFormed l s
+pub applied-kept : (l : Layout) → Sound l → (base : ℕ) (b : List ℕ) (n : ℕ) (s : List ℕ) → l .«guests_at» ≤ base → wellFormed l (applied base b n s) ≡ wellFormed l s
 unfolding applied
 applied-kept l so base b zero s k = refl
 applied-kept l so base b (suc n) s k = stored-kept l so (kindOf (idAt b (offsetAt b n))) base (valueAt b (offsetAt b n)) (applied base b n s) k ∙ applied-kept l so base b n s k
 
-pub base-values : (l : Layout) → Sound l → (s : List ℕ) (flags guest vcpu : ℕ) → l .«guests_at» ≤ baseOf l s flags guest vcpu
+pub base-values : (l : Layout) → Sound l → (s : List ℕ) (wide : Bool) (guest vcpu : ℕ) → l .«guests_at» ≤ baseOf l s wide guest vcpu
 unfolding baseOf
-base-values l so s flags guest vcpu = go (hasBit0 flags)
-  where
-    go : (t : Bool) → l .«guests_at» ≤ cond t (guestAt l guest) (slotAt l (slotOf l (header l s) guest vcpu))
-    go true = omega arith
-    go false = omega (arith, so .guests-fit)
+base-values l so s true guest vcpu = omega arith
+base-values l so s false guest vcpu = omega (arith, so .guests-fit)
 
 record Stays (l : Layout) (o : Outcome) : Type 0 where
   formed : wellFormed l (o .store) ≡ true
@@ -147,11 +143,20 @@ module _ (l : Layout) (so : Sound l) (s : List ℕ) (good : wellFormed l s ≡ t
   unfolding setState
   set-stays flags guest vcpu b =
       decided (Stays l) s [] _ _ same
-      (λ p. record { formed = applied-kept l so (baseOf l s flags guest vcpu) b (countOf b) s (base-values l so s flags guest vcpu) ∙ good })
+      (λ p. record { formed = applied-kept l so (baseOf l s (hasBit0 flags) guest vcpu) b (countOf b) s (base-values l so s (hasBit0 flags) guest vcpu) ∙ good })
 
   get-stays : (flags guest vcpu : ℕ) (b : List ℕ) → Stays l (getState l s flags guest vcpu b)
   unfolding getState
   get-stays flags guest vcpu b = decided (Stays l) s b _ _ (same-with b) (λ p. record { formed = good })
+
+  run-stays : (flags guest vcpu : ℕ) (input output effect : List ℕ) (exit : ℕ) → Stays l (runVcpu l s flags guest vcpu input output effect exit)
+  unfolding runVcpu ran ranStore
+  run-stays flags guest vcpu input output effect exit =
+      let base = baseOf l s false guest vcpu in
+      let b = inputOf s base input in
+      let v = base-values l so s false guest vcpu in
+      decided (Stays l) s output _ _ (same-with output)
+      (λ p. record { formed = applied-kept l so base effect (countOf effect) (applied base b (countOf b) s) v ∙ applied-kept l so base b (countOf b) s v ∙ good })
 
   stays : (c : Call) → Stays l (outcome l s c)
   unfolding outcome getCapabilities guestClock
@@ -161,6 +166,7 @@ module _ (l : Layout) (so : Sound l) (s : List ℕ) (good : wellFormed l s ≡ t
   stays (CreateVcpu flags guest vcpu) = vcpu-stays flags guest vcpu
   stays (GetState flags guest vcpu buffer) = get-stays flags guest vcpu buffer
   stays (SetState flags guest vcpu buffer) = set-stays flags guest vcpu buffer
+  stays (RunVcpu flags guest vcpu input output effect exit) = run-stays flags guest vcpu input output effect exit
   stays (DeleteGuest flags guest) = delete-stays flags guest
   stays (GuestClock guest timebase) = decided (Stays l) s [] _ _ same (λ p. record { formed = good })
 

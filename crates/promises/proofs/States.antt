@@ -37,9 +37,10 @@ use Rattle.store.proofs.Tests.{live-parts}
 use Rattle.transfer.specs.Transfer.{applied, filled, AllReady}
 use Rattle.transfer.proofs.Accepted.{ready-all}
 use Rattle.transfer.proofs.Named.{Named, ValueByte, applied-frame, filled-frame, beside}
 use Rattle.l0.specs.Refusals.{Outcome, success, refusal, accept, refuse, decide, bit0, hasBit0}
-use Rattle.l0.specs.State.{targetTests, baseOf, contextOf, isStopped, faultOf, bufferTests, setState, fillWith, getState}
-use Rattle.l0.proofs.Kept.{Passed, decided}
+use Rattle.l0.specs.State.{targetTests, baseOf, contextOf, isStopped, faultOf, bufferTests, setUse, setState, getUse, fillWith, getState}
+use Rattle.l0.proofs.Judging.{Passed}
+use Rattle.promises.proofs.Kept.{decided}
 
 -- tests that failed may be left out
 skip : {B : Type 0} (turn : Fault → B) (xs ys : List (Bool × Fault)) (o : B) → Passed xs → firstOf turn (xs ++ ys) o ≡ firstOf turn ys o
@@ -49,13 +50,6 @@ skip turn (x ∷ xs) ys o p = ap (λ (t : Bool). cond t (turn (x .1)) (firstOf t
 not-stopped : (w : Walked) → isStopped w ≡ false → w ≡ Done
 not-stopped Done e = refl
 not-stopped (Stopped bad place) e = let z : _≡_ {A = ℕ} 0 1 = cc in absurd (omega arith)
-
--- the use of a call's buffer
-abbrev pub setUse : ℕ → Usage
-setUse flags = cond (hasBit0 flags) GuestSet ThreadSet
-
-abbrev pub getUse : ℕ → Usage
-getUse flags = cond (hasBit0 flags) GuestGet ThreadGet
 
 module _ (l : Layout) (s : List ℕ) (flags guest vcpu : ℕ) (b : List ℕ) where
   -- ---- refused for an element exactly if it holds a bad one; the place is the first
@@ -91,15 +85,15 @@ module _ (l : Layout) (s : List ℕ) (flags guest vcpu : ℕ) (b : List ℕ) whe
             ap (λ (y : Outcome). y .answer) e
             ∙ ap (λ (w : Walked). cond (isStopped w) (turn (faultOf w)) o .answer) (refused-exactly (contextOf l s usage) b bad place .1 f) ∙ r (Element bad place)
 
-    pub set-refused-exactly : (setState l s flags guest vcpu b .answer ≡ refusal (Element bad place)) ↔ FirstFrom (contextOf l s (setUse flags)) b 0 (countOf b) bad place
+    pub set-refused-exactly : (setState l s flags guest vcpu b .answer ≡ refusal (Element bad place)) ↔ FirstFrom (contextOf l s (setUse (hasBit0 flags))) b 0 (countOf b) bad place
     unfolding setState decide
     set-refused-exactly =
-        exactly (setUse flags) _ (refuse s []) (accept 0 (applied (baseOf l s flags guest vcpu) b (countOf b) s)) (λ f. refl) refl (judged-only (setUse flags) (refuse s []) (accept 0 (applied (baseOf l s flags guest vcpu) b (countOf b) s)))
+        exactly (setUse (hasBit0 flags)) _ (refuse s []) (accept 0 (applied (baseOf l s (hasBit0 flags) guest vcpu) b (countOf b) s)) (λ f. refl) refl (judged-only (setUse (hasBit0 flags)) (refuse s []) (accept 0 (applied (baseOf l s (hasBit0 flags) guest vcpu) b (countOf b) s)))
 
-    pub get-refused-exactly : (getState l s flags guest vcpu b .answer ≡ refusal (Element bad place)) ↔ FirstFrom (contextOf l s (getUse flags)) b 0 (countOf b) bad place
+    pub get-refused-exactly : (getState l s flags guest vcpu b .answer ≡ refusal (Element bad place)) ↔ FirstFrom (contextOf l s (getUse (hasBit0 flags))) b 0 (countOf b) bad place
     unfolding getState decide
     get-refused-exactly =
-        exactly (getUse flags) _ (refuse s b) (fillWith s (baseOf l s flags guest vcpu) b) (λ f. refl) refl (judged-only (getUse flags) (refuse s b) (fillWith s (baseOf l s flags guest vcpu) b))
+        exactly (getUse (hasBit0 flags)) _ (refuse s b) (fillWith s (baseOf l s (hasBit0 flags) guest vcpu) b) (λ f. refl) refl (judged-only (getUse (hasBit0 flags)) (refuse s b) (fillWith s (baseOf l s (hasBit0 flags) guest vcpu) b))
 
   -- ---- only what is named changes
   -- a buffer that passed its tests was walked to its end
@@ -107,34 +101,34 @@ module _ (l : Layout) (s : List ℕ) (flags guest vcpu : ℕ) (b : List ℕ) whe
   walked usage p = not-stopped (firstBad (contextOf l s usage) b) (p .1 .1 .1 .1 .1 .0)
 
   abbrev setTests : List (Bool × Fault)
-  setTests = targetTests l s bit0 flags (hasBit0 flags) guest vcpu ++ bufferTests l s (setUse flags) b
+  setTests = targetTests l s bit0 flags (hasBit0 flags) guest vcpu ++ bufferTests l s (setUse (hasBit0 flags)) b
 
   abbrev setDone : Outcome
-  setDone = accept 0 (applied (baseOf l s flags guest vcpu) b (countOf b) s)
+  setDone = accept 0 (applied (baseOf l s (hasBit0 flags) guest vcpu) b (countOf b) s)
 
   record ByteKept (j : ℕ) (o : Outcome) : Type 0 where
     kept : getD (o .store) j 0 ≡ getD s j 0
 
-  pub set-only-named : (j : ℕ) → (Named (baseOf l s flags guest vcpu) b (countOf b) j → ⊥) → getD (setState l s flags guest vcpu b .store) j 0 ≡ getD s j 0
+  pub set-only-named : (j : ℕ) → (Named (baseOf l s (hasBit0 flags) guest vcpu) b (countOf b) j → ⊥) → getD (setState l s flags guest vcpu b .store) j 0 ≡ getD s j 0
   unfolding setState
   set-only-named j out =
       decided (ByteKept j) s [] setTests setDone (λ f. record { kept = refl })
-      (λ p. record { kept = applied-frame (contextOf l s (setUse flags)) (baseOf l s flags guest vcpu) b (walked (setUse flags) p) (countOf b) j s (omega arith) out }) .kept
+      (λ p. record { kept = applied-frame (contextOf l s (setUse (hasBit0 flags))) (baseOf l s (hasBit0 flags) guest vcpu) b (walked (setUse (hasBit0 flags)) p) (countOf b) j s (omega arith) out }) .kept
 
   record PartKept (i n : ℕ) (o : Outcome) : Type 0 where
     same : bytesAt (o .store) i n ≡ bytesAt s i n
 
   -- any part of the store beside the values of the guest or vCPU named
-  pub set-beside : (i n : ℕ) → i + n ≤ length s → Clear (baseOf l s flags guest vcpu) (bytesOf (scopeFor (setUse flags))) i n → bytesAt (setState l s flags guest vcpu b .store) i n ≡ bytesAt s i n
+  pub set-beside : (i n : ℕ) → i + n ≤ length s → Clear (baseOf l s (hasBit0 flags) guest vcpu) (bytesOf (scopeFor (setUse (hasBit0 flags)))) i n → bytesAt (setState l s flags guest vcpu b .store) i n ≡ bytesAt s i n
   unfolding setState
   set-beside i n room c =
       decided (PartKept i n) s [] setTests setDone (λ f. record { same = refl })
-      (λ p. record { same = beside (contextOf l s (setUse flags)) (baseOf l s flags guest vcpu) b (walked (setUse flags) p) s i n room c }) .same
+      (λ p. record { same = beside (contextOf l s (setUse (hasBit0 flags))) (baseOf l s (hasBit0 flags) guest vcpu) b (walked (setUse (hasBit0 flags)) p) s i n room c }) .same
 
   -- ---- get: only value bytes of the buffer
   -- the values of a target that was found lie within the store
   base-room : Sound l → (usage : Usage) → bytesOf (scopeFor usage) ≡ cond (hasBit0 flags) guestBytes slotBytes → Passed (targetTests l s bit0 flags (hasBit0 flags) guest vcpu)
-      → baseOf l s flags guest vcpu + bytesOf (scopeFor usage) ≤ length s
+      → baseOf l s (hasBit0 flags) guest vcpu + bytesOf (scopeFor usage) ≤ length s
   unfolding baseOf
   base-room so usage e p =
       let long = formed l s (not-false _ (p .0)) .long in
@@ -146,14 +140,14 @@ module _ (l : Layout) (s : List ℕ) (flags guest vcpu : ℕ) (b : List ℕ) whe
       go true q a long lo hi = omega (arith, q, so .guests-fit, so .whole)
       go false q a long lo hi = let k : slotOf l (header l s) guest vcpu < l .slots = leb-false _ _ a in omega (arith, q, so .whole)
 
-  pub get-room : bytesOf (scopeFor (getUse flags)) ≡ cond (hasBit0 flags) guestBytes slotBytes
+  pub get-room : bytesOf (scopeFor (getUse (hasBit0 flags))) ≡ cond (hasBit0 flags) guestBytes slotBytes
   get-room = go (hasBit0 flags)
     where
       go : (t : Bool) → bytesOf (scopeFor (cond t GuestGet ThreadGet)) ≡ cond t guestBytes slotBytes
       go true = refl
       go false = refl
 
-  pub set-room : bytesOf (scopeFor (setUse flags)) ≡ cond (hasBit0 flags) guestBytes slotBytes
+  pub set-room : bytesOf (scopeFor (setUse (hasBit0 flags))) ≡ cond (hasBit0 flags) guestBytes slotBytes
   set-room = go (hasBit0 flags)
     where
       go : (t : Bool) → bytesOf (scopeFor (cond t GuestSet ThreadSet)) ≡ cond t guestBytes slotBytes
@@ -168,11 +162,11 @@ module _ (l : Layout) (s : List ℕ) (flags guest vcpu : ℕ) (b : List ℕ) whe
   long-passed usage p = long-enough b (badLength b) refl (p .1 .1 .1 .1 .0)
 
   pub all-ready : Sound l → (usage : Usage) → bytesOf (scopeFor usage) ≡ cond (hasBit0 flags) guestBytes slotBytes
-      → Passed (targetTests l s bit0 flags (hasBit0 flags) guest vcpu ++ bufferTests l s usage b) → AllReady (baseOf l s flags guest vcpu) b (length s)
-  all-ready so usage e p = ready-all (contextOf l s usage) (baseOf l s flags guest vcpu) (length s) (base-room so usage e (target-passed usage p)) b (long-passed usage p) (walked usage p)
+      → Passed (targetTests l s bit0 flags (hasBit0 flags) guest vcpu ++ bufferTests l s usage b) → AllReady (baseOf l s (hasBit0 flags) guest vcpu) b (length s)
+  all-ready so usage e p = ready-all (contextOf l s usage) (baseOf l s (hasBit0 flags) guest vcpu) (length s) (base-room so usage e (target-passed usage p)) b (long-passed usage p) (walked usage p)
 
   abbrev getTests : List (Bool × Fault)
-  getTests = targetTests l s bit0 flags (hasBit0 flags) guest vcpu ++ bufferTests l s (getUse flags) b
+  getTests = targetTests l s bit0 flags (hasBit0 flags) guest vcpu ++ bufferTests l s (getUse (hasBit0 flags)) b
 
   record BufferKept (j : ℕ) (o : Outcome) : Type 0 where
     kept : getD (o .buffer) j 0 ≡ getD b j 0
@@ -180,8 +174,8 @@ module _ (l : Layout) (s : List ℕ) (flags guest vcpu : ℕ) (b : List ℕ) whe
   pub get-only-named : Sound l → (j : ℕ) → (ValueByte b (countOf b) j → ⊥) → getD (getState l s flags guest vcpu b .buffer) j 0 ≡ getD b j 0
   unfolding getState
   get-only-named so j out =
-      decided (BufferKept j) s b getTests (fillWith s (baseOf l s flags guest vcpu) b) (λ f. record { kept = refl })
-      (λ p. record { kept = filled-frame (baseOf l s flags guest vcpu) s b (all-ready so (getUse flags) get-room p) (countOf b) j (omega arith) out }) .kept
+      decided (BufferKept j) s b getTests (fillWith s (baseOf l s (hasBit0 flags) guest vcpu) b) (λ f. record { kept = refl })
+      (λ p. record { kept = filled-frame (baseOf l s (hasBit0 flags) guest vcpu) s b (all-ready so (getUse (hasBit0 flags)) get-room p) (countOf b) j (omega arith) out }) .kept
 
 -- ---- setting one guest or vCPU leaves the others' values
 slots-apart : (l : Layout) (i j : ℕ) → i ≢ j → Clear (slotAt l i) slotBytes (slotAt l j) slotBytes
@@ -206,12 +200,12 @@ module _ (l : Layout) (so : Sound l) (s : List ℕ) (good : wellFormed l s ≡ t
   long = formed l s good .long
 
   -- by where the values of the call start
-  clear-of : (base bytes i n : ℕ) → baseOf l s flags guest vcpu ≡ base → cond (hasBit0 flags) guestBytes slotBytes ≡ bytes → Clear base bytes i n
-      → Clear (baseOf l s flags guest vcpu) (bytesOf (scopeFor (setUse flags))) i n
-  clear-of base bytes i n e q c = subst (λ (x : ℕ). Clear x (bytesOf (scopeFor (setUse flags))) i n) (sym e) (subst (λ (y : ℕ). Clear base y i n) (sym (set-room l s flags guest vcpu b ∙ q)) c)
+  clear-of : (base bytes i n : ℕ) → baseOf l s (hasBit0 flags) guest vcpu ≡ base → cond (hasBit0 flags) guestBytes slotBytes ≡ bytes → Clear base bytes i n
+      → Clear (baseOf l s (hasBit0 flags) guest vcpu) (bytesOf (scopeFor (setUse (hasBit0 flags)))) i n
+  clear-of base bytes i n e q c = subst (λ (x : ℕ). Clear x (bytesOf (scopeFor (setUse (hasBit0 flags)))) i n) (sym e) (subst (λ (y : ℕ). Clear base y i n) (sym (set-room l s flags guest vcpu b ∙ q)) c)
 
   module _ (thread : hasBit0 flags ≡ false) where
-    thread-base : baseOf l s flags guest vcpu ≡ slotAt l (slotOf l (header l s) guest vcpu)
+    thread-base : baseOf l s (hasBit0 flags) guest vcpu ≡ slotAt l (slotOf l (header l s) guest vcpu)
     unfolding baseOf
     thread-base = simp thread
 
@@ -231,7 +225,7 @@ module _ (l : Layout) (so : Sound l) (s : List ℕ) (good : wellFormed l s ≡ t
         (right (omega (arith, so .guests-fit))))
 
   module _ (wide : hasBit0 flags ≡ true) where
-    wide-base : baseOf l s flags guest vcpu ≡ guestAt l guest
+    wide-base : baseOf l s (hasBit0 flags) guest vcpu ≡ guestAt l guest
     unfolding baseOf
     wide-base = simp wide
 

@@ -35,11 +35,12 @@ use Rattle.store.specs.Header.{header, slotOf}
 use Rattle.store.proofs.Frame.{header-values}
 use Rattle.transfer.specs.Transfer.{valueAt, putFrom, putAs, applied, readFrom, fillAs, filled, Moves, AllReady}
 use Rattle.transfer.proofs.Moving.{moves-fits, fits-stored}
 use Rattle.l0.specs.Refusals.{Outcome, accept, decide, bit0, hasBit0}
-use Rattle.l0.specs.State.{targetTests, baseOf, contextOf, isStopped, faultOf, bufferTests, setState, fillWith, getState}
-use Rattle.l0.proofs.Kept.{Passed, base-values}
-use Rattle.l0.proofs.Lowest.{Real, accepted, no-store, no-flag, no-guest, no-vcpu}
-use Rattle.l0.proofs.States.{setUse, getUse, walked, all-ready, set-room, get-room}
+use Rattle.l0.specs.State.{targetTests, baseOf, contextOf, isStopped, faultOf, bufferTests, setUse, setState, getUse, fillWith, getState}
+use Rattle.l0.proofs.Judging.{Passed}
+use Rattle.promises.proofs.Kept.{base-values}
+use Rattle.promises.proofs.Lowest.{Real, accepted, no-store, no-flag, no-guest, no-vcpu}
+use Rattle.promises.proofs.States.{walked, all-ready, set-room, get-room}
 
 no-length : Length ≡ None → ⊥
 no-length e = let z : _≡_ {A = ℕ} 0 1 = cc in omega arith
@@ -53,14 +54,14 @@ module _ (l : Layout) (s : List ℕ) (flags guest vcpu : ℕ) (b : List ℕ) whe
   all-real usage = ((λ t. no-store), ((λ t. no-flag _), ((λ t. no-guest), ((λ t. no-vcpu), ((λ t. no-length), (stopped-real (firstBad (contextOf l s usage) b), tt))))))
 
   set-accepted : setState l s flags guest vcpu b .answer .fault ≡ None
-      → Passed (targetTests l s bit0 flags (hasBit0 flags) guest vcpu ++ bufferTests l s (setUse flags) b) × (setState l s flags guest vcpu b ≡ accept 0 (applied (baseOf l s flags guest vcpu) b (countOf b) s))
+      → Passed (targetTests l s bit0 flags (hasBit0 flags) guest vcpu ++ bufferTests l s (setUse (hasBit0 flags)) b) × (setState l s flags guest vcpu b ≡ accept 0 (applied (baseOf l s (hasBit0 flags) guest vcpu) b (countOf b) s))
   unfolding setState
-  set-accepted e = accepted s [] (targetTests l s bit0 flags (hasBit0 flags) guest vcpu ++ bufferTests l s (setUse flags) b) (accept 0 (applied (baseOf l s flags guest vcpu) b (countOf b) s)) (all-real (setUse flags)) e
+  set-accepted e = accepted s [] (targetTests l s bit0 flags (hasBit0 flags) guest vcpu ++ bufferTests l s (setUse (hasBit0 flags)) b) (accept 0 (applied (baseOf l s (hasBit0 flags) guest vcpu) b (countOf b) s)) (all-real (setUse (hasBit0 flags))) e
 
   get-accepted : getState l s flags guest vcpu b .answer .fault ≡ None
-      → Passed (targetTests l s bit0 flags (hasBit0 flags) guest vcpu ++ bufferTests l s (getUse flags) b) × (getState l s flags guest vcpu b ≡ fillWith s (baseOf l s flags guest vcpu) b)
+      → Passed (targetTests l s bit0 flags (hasBit0 flags) guest vcpu ++ bufferTests l s (getUse (hasBit0 flags)) b) × (getState l s flags guest vcpu b ≡ fillWith s (baseOf l s (hasBit0 flags) guest vcpu) b)
   unfolding getState
-  get-accepted e = accepted s b (targetTests l s bit0 flags (hasBit0 flags) guest vcpu ++ bufferTests l s (getUse flags) b) (fillWith s (baseOf l s flags guest vcpu) b) (all-real (getUse flags)) e
+  get-accepted e = accepted s b (targetTests l s bit0 flags (hasBit0 flags) guest vcpu ++ bufferTests l s (getUse (hasBit0 flags)) b) (fillWith s (baseOf l s (hasBit0 flags) guest vcpu) b) (all-real (getUse (hasBit0 flags))) e
 
 -- the first element of an accepted buffer that has one
 first-good : (k : Context) (b : List ℕ) → firstBad k b ≡ Done → countOf b ≡ 1 → GoodElement k b 4
@@ -68,7 +69,7 @@ first-good k b d o =
     subst (GoodElement k b) (sym (offset-start b)) (good-element k b (offsetAt b 0) (offsetAt b (0 + 1)) (accepted-exactly k b .0 d 0 (omega arith)) .0)
 
 -- what a use that sets permits is stored, unless it is a NOP
-settable : (flags : ℕ) → isSetting (setUse flags) ≡ true
+settable : (flags : ℕ) → isSetting (setUse (hasBit0 flags)) ≡ true
 settable flags = go (hasBit0 flags)
   where
     go : (t : Bool) → isSetting (cond t GuestSet ThreadSet) ≡ true
@@ -123,7 +124,7 @@ first-room base len b r o p t =
     fits-stored (t .entry .source) base (sizeAt b 4) len p (moves-fits (kindOf (idAt b 4)) base (sizeAt b 4) len (t .entry) (r .each 0 (omega arith) .moves) (t .listed)) (t .stored)
 
 -- values start where the header says, and storing a value leaves it
-base-same : (l : Layout) (s t : List ℕ) (flags guest vcpu : ℕ) → header l t ≡ header l s → baseOf l t flags guest vcpu ≡ baseOf l s flags guest vcpu
+base-same : (l : Layout) (s t : List ℕ) (flags guest vcpu : ℕ) → header l t ≡ header l s → baseOf l t (hasBit0 flags) guest vcpu ≡ baseOf l s (hasBit0 flags) guest vcpu
 unfolding baseOf
 base-same l s t flags guest vcpu e = ap (λ (h : List ℕ). cond (hasBit0 flags) (guestAt l guest) (slotAt l (slotOf l h guest vcpu))) e
 
@@ -138,20 +139,20 @@ module _ (l : Layout) (so : Sound l) (s : List ℕ) (flags guest vcpu : ℕ) (b 
   set-then-get eb ob n ec oc i =
       let x = set-accepted l s flags guest vcpu b eb in
       let y = get-accepted l after flags guest vcpu c ec in
-      let base = baseOf l s flags guest vcpu in
-      let gb = first-good (contextOf l s (setUse flags)) b (walked l s flags guest vcpu b (setUse flags) (x .0)) ob in
-      let gc = first-good (contextOf l after (getUse flags)) c (walked l after flags guest vcpu c (getUse flags) (y .0)) oc in
-      let found = named (contextOf l s (setUse flags)) (idAt b 4) (settable flags) n (gb .permitted) in
+      let base = baseOf l s (hasBit0 flags) guest vcpu in
+      let gb = first-good (contextOf l s (setUse (hasBit0 flags))) b (walked l s flags guest vcpu b (setUse (hasBit0 flags)) (x .0)) ob in
+      let gc = first-good (contextOf l after (getUse (hasBit0 flags))) c (walked l after flags guest vcpu c (getUse (hasBit0 flags)) (y .0)) oc in
+      let found = named (contextOf l s (setUse (hasBit0 flags))) (idAt b 4) (settable flags) n (gb .permitted) in
       let p = found .0 in
       let t = found .1 in
       let tc : StoredAt (idAt c 4) p = record { entry = t .entry; listed = ap kindOf i ∙ t .listed; stored = t .stored } in
       let sb : sizeAt b 4 ≡ t .entry .size = size-fits (idAt b 4) (t .entry) (sizeAt b 4) (t .listed) (gb .sized) in
       let sc : sizeAt c 4 ≡ t .entry .size = size-fits (idAt c 4) (t .entry) (sizeAt c 4) (tc .listed) (gc .sized) in
       let st : after ≡ put s (base + p) (valueAt b 4) = ap (λ (o : Outcome). o .store) (x .1) ∙ applied-one base b s p t ob in
-      let room : base + p + t .entry .size ≤ length s = omega (arith, first-room base (length s) b (all-ready l s flags guest vcpu b so (setUse flags) (set-room l s flags guest vcpu b) (x .0)) ob p t, sb) in
-      let hd : header l after ≡ header l s = ap (header l) st ∙ header-values l so s (base + p) (valueAt b 4) (omega (arith, base-values l so s flags guest vcpu)) in
-      let bs : baseOf l after flags guest vcpu ≡ base = base-same l s after flags guest vcpu hd in
+      let room : base + p + t .entry .size ≤ length s = omega (arith, first-room base (length s) b (all-ready l s flags guest vcpu b so (setUse (hasBit0 flags)) (set-room l s flags guest vcpu b) (x .0)) ob p t, sb) in
+      let hd : header l after ≡ header l s = ap (header l) st ∙ header-values l so s (base + p) (valueAt b 4) (omega (arith, base-values l so s (hasBit0 flags) guest vcpu)) in
+      let bs : baseOf l after (hasBit0 flags) guest vcpu ≡ base = base-same l s after flags guest vcpu hd in
       ap (λ (o : Outcome). valueAt (o .buffer) 4) (y .1)
-      ∙ ap (λ (v : List ℕ). valueAt v 4) (filled-one (baseOf l after flags guest vcpu) after c p tc oc)
+      ∙ ap (λ (v : List ℕ). valueAt v 4) (filled-one (baseOf l after (hasBit0 flags) guest vcpu) after c p tc oc)
       ∙ ap₂ (λ (u : ℕ) (z : List ℕ). valueAt (put c 8 (bytesAt z (u + p) (t .entry .size))) 4) bs st
       ∙ through b c s (base + p) (t .entry .size) sb sc (omega (arith, gb .inside, sb)) (omega (arith, gc .inside, sc)) room

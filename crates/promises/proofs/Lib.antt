@@ -1,0 +1,4 @@
+pub mod Kept
+pub mod Lowest
+pub mod States
+pub mod ReadBack
