@@ -17,6 +17,10 @@ target/bench/compare: all bench/compare.c bench/model.c bench/model.h include/ad
 	mkdir -p target/bench
 	$(CC) $(CFLAGS) -Iinclude bench/compare.c bench/model.c $(archive) -o $@
 
+target/bench/calls: all bench/calls.c bench/model.c bench/model.h include/adderknot.h
+	mkdir -p target/bench
+	$(CC) $(CFLAGS) -Iinclude bench/calls.c bench/model.c $(archive) -o $@
+
 target/bench/speed: all bench/speed.c bench/model.c bench/model.h include/adderknot.h
 	mkdir -p target/bench
 	$(CC) $(CFLAGS) -Iinclude bench/speed.c bench/model.c $(archive) -o $@

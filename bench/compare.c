@@ -10,9 +10,11 @@
  *     agreement   r3, r4, r5, the place of a value found, and all lent bytes are the same
  *     unchanged   a refusal changed no lent byte, and no call changed what it may only read
  *     guards      no byte beside lent memory changed
+ *     order       each set of a run's faults gave the answer of the one that the scope puts first
  *     coverage    each call gave each answer that it can give, 2 with each unsupported bit as r4, and no other; each
- *                 element was read and set where its access permits and refused where not; each edge of a value rule
- *                 and of a buffer's length was met
+ *                 element was read and set where its access permits and refused where not, in a run's input and effect
+ *                 too; each edge of a value rule, of a buffer's length and of a registered size was met; each exit was
+ *                 accepted, and numbers close to one were refused
  *
  * The run ends at the first difference. To add a call: its numbers' makers, a line MAKE, and a row of KINDS.
  */
@@ -87,14 +89,16 @@ static void flip_bit(uint8_t *p, unsigned n)
 /* Each piece is there three times: lent to the library, lent to the model, and as it was before the call. Between two
    calls the three are equal, with what lies beside them, so that BEFORE also tells the guard bytes. */
 enum side { LIBRARY, MODEL, BEFORE, SIDES };
-enum piece { STORE, BUFFER, PIECES };
+enum piece { STORE, BUFFER, INPUT, OUTPUT, EFFECT, PIECES };
 
-static const char *const PIECE_NAME[PIECES] = { "store", "buffer" };
+static const char *const PIECE_NAME[PIECES] = { "store", "buffer", "input", "output", "effect" };
 
 /* The store is also lent 65,536 bytes too long, which a length kept in 16 bits would not see. */
 enum { GUARD = 61, STORE_CAPACITY = ADK_STORE_SIZE + 65536, BUFFER_CAPACITY = ADK_BUFFER_MAX + 4096 };
 
-static const size_t CAPACITY[PIECES] = { STORE_CAPACITY, BUFFER_CAPACITY };
+static const size_t CAPACITY[PIECES] = {
+    STORE_CAPACITY, BUFFER_CAPACITY, BUFFER_CAPACITY, BUFFER_CAPACITY, BUFFER_CAPACITY
+};
 
 static uint8_t *memory[SIDES][PIECES];
 
@@ -130,7 +134,7 @@ static void share(enum piece p, size_t at, size_t n)
 
 /* ---- Calls ---- */
 
-enum { NUMBERS = 3, MOODS = 3, ANSWERS = 16 };
+enum { NUMBERS = 4, MOODS = 3, ANSWERS = 16 };
 enum use { NOT_LENT, READ, WRITTEN };
 
 struct call {
@@ -147,6 +151,7 @@ struct kind {
     enum use use[PIECES];
     unsigned weight[MOODS]; /* how often, in a mood that fills the store, mixes, or empties it */
     unsigned answers;       /* the answers that it can give, as bits */
+    unsigned both;          /* of these the ones that it gives with r4 0 and with another r4 */
     uint64_t supported;     /* the flag bits that it supports */
     void (*choose)(struct call *c);
     make_call *library, *model;
@@ -182,6 +187,8 @@ MAKE(plain, create_guest, m[STORE], c->len[STORE], c->n[0], c->n[1])
 MAKE(plain, create_vcpu, m[STORE], c->len[STORE], c->n[0], c->n[1], c->n[2])
 MAKE(plain, get_state, m[STORE], c->len[STORE], c->n[0], c->n[1], c->n[2], m[BUFFER], c->len[BUFFER])
 MAKE(plain, set_state, m[STORE], c->len[STORE], c->n[0], c->n[1], c->n[2], m[BUFFER], c->len[BUFFER])
+MAKE(plain, run_vcpu, m[STORE], c->len[STORE], c->n[0], c->n[1], c->n[2], m[INPUT], c->len[INPUT], m[OUTPUT],
+     c->len[OUTPUT], m[EFFECT], c->len[EFFECT], c->n[3])
 MAKE(plain, delete_guest, m[STORE], c->len[STORE], c->n[0], c->n[1])
 MAKE(plain, guest_clock, m[STORE], c->len[STORE], c->n[0], c->n[1])
 MAKE(as_is, lookup, m[BUFFER], c->len[BUFFER], (uint16_t)c->n[0])
@@ -225,7 +232,21 @@ static void store_number(uint8_t *p, int n, uint64_t v)
 }
 
 /* Positions in the store, for choosing numbers and doing damage. */
-enum { LIVE = 8, ZERO = 9, WORDS = 10, HEADER = 42, GUEST_SIZE = 52, TB_OFFSET = 4 };
+enum {
+    LIVE = 8,
+    ZERO = 9,
+    WORDS = 10,
+    HEADER = 42,
+    GUEST_SIZE = 52,
+    TB_OFFSET = 4,
+    SLOT_VALUES = 458,
+    SLOT_SIZE = 1820
+};
+
+static unsigned word_of(uint64_t guest, unsigned vcpu)
+{
+    return 0x8000 | (unsigned)guest << 11 | vcpu;
+}
 
 static unsigned slot_word(unsigned slot)
 {
@@ -396,7 +417,8 @@ static void choose_guest_clock(struct call *c)
 
 /* ---- Elements ---- */
 
-enum { R = 1, W = 2, RW = R | W };
+/* Read with get state, written with set state, taken in the input of a run, taken in its effect. */
+enum { R = 1, W = 2, RUN_IN = 4, RUN_EFFECT = 8, RW = R | W, ALL = RW | RUN_IN | RUN_EFFECT };
 
 /* The list of adderknot.h apart from the NOP, in runs of equal elements. */
 static const struct row {
@@ -409,15 +431,15 @@ static const struct row {
     { 0x0005, 0x0005, 24, RW, true },
     { 0x0006, 0x0006, 16, RW, true },
     { 0x0C00, 0x0C01, 16, RW, false },
-    { 0x0C02, 0x0C02, 8, RW, false },
-    { 0x1000, 0x1039, 8, RW, false },
-    { 0x103A, 0x103A, 8, W, false },
-    { 0x103B, 0x1053, 8, RW, false },
-    { 0x2000, 0x200E, 4, RW, false },
-    { 0x3000, 0x303F, 16, RW, false },
-    { 0xF000, 0xF000, 8, R, false },
-    { 0xF001, 0xF002, 4, R, false },
-    { 0xF003, 0xF003, 8, R, false },
+    { 0x0C02, 0x0C02, 8, RW | RUN_IN, false },
+    { 0x1000, 0x1039, 8, ALL, false },
+    { 0x103A, 0x103A, 8, W | RUN_IN | RUN_EFFECT, false },
+    { 0x103B, 0x1053, 8, ALL, false },
+    { 0x2000, 0x200E, 4, ALL, false },
+    { 0x3000, 0x303F, 16, ALL, false },
+    { 0xF000, 0xF000, 8, R | RUN_EFFECT, false },
+    { 0xF001, 0xF002, 4, R | RUN_EFFECT, false },
+    { 0xF003, 0xF003, 8, R | RUN_EFFECT, false },
 };
 
 static unsigned any_of(const struct row *row)
@@ -537,12 +559,19 @@ static unsigned any_size(void)
 /* A buffer under construction in BEFORE; high is the end of what was written. Elements take their IDs from a few, so
    that IDs repeat. */
 struct build {
+    enum piece piece;
+    unsigned access; /* what the call asks of an element, and its scope */
+    bool wide;
     uint8_t *b;
     size_t len, high;
     uint32_t count;
     unsigned id[3];
-    const struct kind *kind;
 };
+
+static struct build begin_build(enum piece piece, unsigned access, bool wide)
+{
+    return (struct build){ .piece = piece, .access = access, .wide = wide, .b = memory[BEFORE][piece] };
+}
 
 static void put_count(struct build *g)
 {
@@ -666,33 +695,33 @@ static void build_buffer(struct build *g)
 }
 
 /* Lends what was built. */
-static void lend_buffer(struct call *c, const struct build *g)
+static void lend(struct call *c, const struct build *g)
 {
-    share(BUFFER, 0, g->high < g->len ? g->len : g->high);
-    c->len[BUFFER] = g->len;
+    share(g->piece, 0, g->high < g->len ? g->len : g->high);
+    c->len[g->piece] = g->len;
 }
 
 static void choose_lookup(struct call *c)
 {
-    struct build g = { .b = memory[BEFORE][BUFFER] };
+    struct build g = begin_build(BUFFER, 0, false);
     for (size_t i = 0; i < COUNT(g.id); i++)
         g.id[i] = any_id();
     build_buffer(&g);
-    lend_buffer(c, &g);
+    lend(c, &g);
     c->n[0] = percent(75) ? g.id[below(COUNT(g.id))] : any_id();
 }
 
-/* ---- Guest state buffers for get and set state ---- */
+/* ---- Guest state buffers for get and set state and run ---- */
 
-static bool takes(const struct kind *k, const struct row *row)
+static bool takes(unsigned access, bool wide, const struct row *row)
 {
-    return row->wide == k->wide && (row->access & k->access) != 0;
+    return row->wide == wide && (row->access & access) != 0;
 }
 
 /* Whether the call can take these elements now: while no capability is agreed, no logical PVR can be set. */
 static bool takes_now(const struct build *g, const struct row *row)
 {
-    return takes(g->kind, row) && (row->first != 0x0003 || g->kind->access == R || agreed() != 0);
+    return takes(g->access, g->wide, row) && (row->first != 0x0003 || g->access == R || agreed() != 0);
 }
 
 static unsigned taken_id(const struct build *g)
@@ -720,10 +749,10 @@ static void add_good(struct build *g, unsigned id)
     add_value(g, id, row_of(id)->size, true);
 }
 
-/* One that the call takes if its value is good: so often enough a bad one is met. */
+/* One that the call takes if its value is good, or a run never: so often enough a bad one is met. */
 static unsigned ruled_id(const struct build *g)
 {
-    return g->kind->wide ? 0x0003 : 0x0C00 + below(2);
+    return g->wide ? 0x0003 : 0x0C00 + below(2);
 }
 
 /* An element of which the ID, the size, the value, or several of them are left to chance. */
@@ -822,11 +851,11 @@ static void choose_state(struct call *c)
     if (percent(12)) {
         *c = (struct call){ c->kind, { c->len[STORE], last.len[BUFFER] }, { 0, last.n[1], last.n[2] } };
     } else {
-        struct build g = { .b = memory[BEFORE][BUFFER], .kind = c->kind };
+        struct build g = begin_build(BUFFER, c->kind->access, c->kind->wide);
         for (size_t i = 0; i < COUNT(g.id); i++)
             g.id[i] = taken_id(&g);
         build_state(&g);
-        lend_buffer(c, &g);
+        lend(c, &g);
         choose_vcpu(c);
         if (c->kind->wide && percent(50))
             c->n[2] = any_number();
@@ -837,12 +866,148 @@ static void choose_state(struct call *c)
     last = *c;
 }
 
-/* ---- Damage to a store ---- */
+/* ---- What a run is given ---- */
 
-static unsigned word_of(uint64_t guest, unsigned vcpu)
+#define RUN_FLAGS (ADK_RUN_EXTERNAL_INTERRUPT | ADK_RUN_PRIVILEGED_DOORBELL | ADK_RUN_SYSTEM_RESET)
+
+static const uint64_t EXITS[] = { 0x000, 0x980, 0xC00, 0xE00, 0xE20, 0xE40, 0xF80 };
+
+/* Numbers close to an exit reason, other interrupts, and exit reasons where only the low or the high bits are kept. */
+static const uint64_t NO_EXITS[] = {
+    0x001, 0x00C, 0x0C0, 0x100, 0x500, 0x900, 0x97F, 0x981, 0xBFF, 0xC01, 0xC20, 0xDFF, 0xE01, 0xE1F, 0xE21, 0xE3F,
+    0xE41, 0xE60, 0xE80, 0xF60, 0xF7F, 0xF81, 0xFFF, 0x1000, 0x1C00, 0x10000, 0x10C00, 0x100000000, 0x100000C00,
+    0x0C00000000000000, 0x8000000000000000, 0x8000000000000C00, 0xFFFFFFFFFFFFFC00, 0xFFFFFFFFFFFFFFFF
+};
+
+static uint64_t any_exit(void)
 {
-    return 0x8000 | (unsigned)guest << 11 | vcpu;
+    uint64_t known = EXITS[below(COUNT(EXITS))];
+    switch (below(16)) {
+    case 0: return NO_EXITS[below(COUNT(NO_EXITS))];
+    case 1: return percent(50) ? alias(known, 0) : any_number();
+    default: return known;
+    }
 }
+
+/* An element of some exit's output. */
+static unsigned output_id(void)
+{
+    switch (below(3)) {
+    case 0: return 0xF000 + below(4);
+    case 1: return 0x102D;
+    default: return 0x1003 + below(10);
+    }
+}
+
+/* The slot of the vCPU that the call names, or ADK_SLOTS. */
+static unsigned slot_of(const struct call *c)
+{
+    unsigned slot = 0;
+    if (c->n[1] > 15 || c->n[2] > ADK_VCPU_MAX)
+        return ADK_SLOTS;
+    while (slot < ADK_SLOTS && slot_word(slot) != word_of(c->n[1], (unsigned)c->n[2]))
+        slot++;
+    return slot;
+}
+
+/* The place in the store of element 0x0C00 or 0x0C01; the size is in its second 8 bytes. */
+static size_t registration_at(unsigned slot, unsigned id)
+{
+    return SLOT_VALUES + SLOT_SIZE * slot + 16 * (id - 0x0C00);
+}
+
+static uint64_t registered_size(unsigned slot, unsigned id)
+{
+    return load(memory[BEFORE][STORE] + registration_at(slot, id) + 8, 8);
+}
+
+static void put_registered_size(unsigned slot, unsigned id, uint64_t size)
+{
+    store_number(memory[BEFORE][STORE] + registration_at(slot, id) + 8, 8, size);
+}
+
+/* Registers a run buffer for so many bytes, or near that, at an edge, as anything, or leaves what set state set. Value
+   bytes are free, so sizes that break the rule are put there too. */
+static void register_buffer(unsigned slot, unsigned id, size_t size)
+{
+    size_t at = registration_at(slot, id);
+    switch (below(24)) {
+    case 0: put_registered_size(slot, id, any_number()); break;
+    case 1: put_edge(memory[BEFORE][STORE] + at, id, false); break;
+    case 2: put_edge(memory[BEFORE][STORE] + at, id, true); break;
+    case 3:
+    case 4: put_registered_size(slot, id, size - below(24)); break;
+    case 5:
+    case 6: put_registered_size(slot, id, size + below(64)); break;
+    case 7: break;
+    default: put_registered_size(slot, id, size); break;
+    }
+    share(STORE, at, 16);
+}
+
+/* How much of a run buffer is lent: as registered, one byte or many less or more, or so many bytes. */
+static size_t lent_length(uint64_t registered, size_t otherwise)
+{
+    if (registered > ADK_BUFFER_MAX + 1)
+        return otherwise;
+    switch (below(20)) {
+    case 0: return registered - (registered > 0);
+    case 1: return below((unsigned)registered + 1);
+    case 2: return registered + 1;
+    case 3: return registered + below(300);
+    case 4: return otherwise;
+    default: return registered;
+    }
+}
+
+/* Registers the run buffers of the vCPU and lends them. The input is built; the output's first bytes are anything, so
+   that each byte which is written or left shows. */
+static void lend_run_buffers(struct call *c)
+{
+    size_t input = c->len[INPUT], output = ADK_RUN_OUTPUT_MIN + (percent(70) ? 0 : below(200));
+    unsigned slot = slot_of(c);
+    any_bytes(memory[BEFORE][OUTPUT], 160);
+    share(OUTPUT, 0, 160);
+    c->len[OUTPUT] = output;
+    if (slot == ADK_SLOTS)
+        return;
+    register_buffer(slot, 0x0C00, input);
+    register_buffer(slot, 0x0C01, output);
+    c->len[INPUT] = lent_length(registered_size(slot, 0x0C00), input);
+    c->len[OUTPUT] = lent_length(registered_size(slot, 0x0C01), output);
+}
+
+/* Mostly good elements, so that often enough the input and the effect of one run are. */
+static void build_run(struct build *g)
+{
+    if (percent(40)) {
+        build_state(g);
+        return;
+    }
+    build_mixed(g, below(16), 0);
+    g->high = g->len;
+}
+
+/* Input and effect share IDs with each other and with the outputs: so it shows which came last. */
+static void choose_run_vcpu(struct call *c)
+{
+    struct build input = begin_build(INPUT, RUN_IN, false), effect = begin_build(EFFECT, RUN_EFFECT, false);
+    lend_store(c);
+    choose_vcpu(c);
+    c->n[0] = any_flags(any64() & RUN_FLAGS);
+    c->n[3] = any_exit();
+    for (size_t i = 0; i < COUNT(effect.id); i++) {
+        effect.id[i] = percent(60) ? output_id() : taken_id(&effect);
+        input.id[i] = takes(RUN_IN, false, row_of(effect.id[i])) ? effect.id[i] : taken_id(&input);
+    }
+    build_run(&input);
+    lend(c, &input);
+    build_run(&effect);
+    lend(c, &effect);
+    lend_run_buffers(c);
+}
+
+/* ---- Damage to a store ---- */
 
 static void put_word(uint8_t *h, unsigned slot, unsigned w)
 {
@@ -964,38 +1129,52 @@ static void set_tb_offset(void)
 
 #define A(n) (1u << (n))
 
+#define ON(name) .choose = choose_##name, .library = library_##name, .model = model_##name
+#define STATE(name) .choose = choose_state, .library = library_##name, .model = model_##name
+
 /* Get and set state have a row for each scope, so that the answers of each are counted. */
 static const struct kind KINDS[] = {
-    { "fresh_store", { NULL }, { WRITTEN, NOT_LENT }, { 2, 2, 2 }, A(0) | A(1), 0, choose_fresh_store,
-      library_fresh_store, model_fresh_store, 0, false },
-    { "get_capabilities", { "flags" }, { READ, NOT_LENT }, { 16, 16, 16 }, A(0) | A(1) | A(2), 0,
-      choose_get_capabilities, library_get_capabilities, model_get_capabilities, 0, false },
-    { "set_capabilities", { "flags", "bitmap" }, { WRITTEN, NOT_LENT }, { 12, 12, 12 }, A(0) | A(1) | A(2) | A(3), 0,
-      choose_set_capabilities, library_set_capabilities, model_set_capabilities, 0, false },
-    { "create_guest", { "flags", "token" }, { WRITTEN, NOT_LENT }, { 30, 20, 8 }, A(0) | A(1) | A(2) | A(3) | A(9), 0,
-      choose_create_guest, library_create_guest, model_create_guest, 0, false },
-    { "create_vcpu", { "flags", "guest", "vcpu" }, { WRITTEN, NOT_LENT }, { 60, 40, 15 },
-      A(0) | A(1) | A(2) | A(3) | A(4) | A(10) | A(9), 0, choose_create_vcpu, library_create_vcpu, model_create_vcpu,
-      0, false },
-    { "get_state, thread", { "flags", "guest", "vcpu" }, { READ, WRITTEN }, { 50, 60, 20 },
-      A(0) | A(1) | A(2) | A(3) | A(4) | A(5) | A(6) | A(7), ADK_GUEST_WIDE, choose_state, library_get_state,
-      model_get_state, R, false },
-    { "get_state, wide", { "flags", "guest", "vcpu" }, { READ, WRITTEN }, { 25, 30, 15 },
-      A(0) | A(1) | A(2) | A(3) | A(5) | A(6) | A(7), ADK_GUEST_WIDE, choose_state, library_get_state,
-      model_get_state, R, true },
-    { "set_state, thread", { "flags", "guest", "vcpu" }, { WRITTEN, READ }, { 70, 90, 30 },
-      A(0) | A(1) | A(2) | A(3) | A(4) | A(5) | A(6) | A(7) | A(8), ADK_GUEST_WIDE, choose_state, library_set_state,
-      model_set_state, W, false },
-    { "set_state, wide", { "flags", "guest", "vcpu" }, { WRITTEN, READ }, { 40, 50, 25 },
-      A(0) | A(1) | A(2) | A(3) | A(5) | A(6) | A(7) | A(8), ADK_GUEST_WIDE, choose_state, library_set_state,
-      model_set_state, W, true },
-    { "delete_guest", { "flags", "guest" }, { WRITTEN, NOT_LENT }, { 3, 15, 40 }, A(0) | A(1) | A(2) | A(3),
-      ADK_DELETE_ALL, choose_delete_guest, library_delete_guest, model_delete_guest, 0, false },
-    { "guest_clock", { "guest", "timebase" }, { READ, NOT_LENT }, { 15, 15, 15 }, A(0) | A(1) | A(3), 0,
-      choose_guest_clock, library_guest_clock, model_guest_clock, 0, false },
-    { "lookup", { "id" }, { NOT_LENT, READ }, { 50, 50, 50 }, A(0) | A(5) | A(6) | A(7), 0, choose_lookup,
-      library_lookup, model_lookup, 0, false },
+    { "fresh_store", ON(fresh_store), .use = { [STORE] = WRITTEN }, .weight = { 2, 2, 2 }, .answers = A(0) | A(1) },
+    { "get_capabilities", ON(get_capabilities), .number = { "flags" }, .use = { [STORE] = READ },
+      .weight = { 16, 16, 16 }, .answers = A(0) | A(1) | A(2) },
+    { "set_capabilities", ON(set_capabilities), .number = { "flags", "bitmap" }, .use = { [STORE] = WRITTEN },
+      .weight = { 12, 12, 12 }, .answers = A(0) | A(1) | A(2) | A(3) },
+    { "create_guest", ON(create_guest), .number = { "flags", "token" }, .use = { [STORE] = WRITTEN },
+      .weight = { 30, 20, 8 }, .answers = A(0) | A(1) | A(2) | A(3) | A(9) },
+    { "create_vcpu", ON(create_vcpu), .number = { "flags", "guest", "vcpu" }, .use = { [STORE] = WRITTEN },
+      .weight = { 60, 40, 15 }, .answers = A(0) | A(1) | A(2) | A(3) | A(4) | A(10) | A(9) },
+    { "get_state, thread", STATE(get_state), .number = { "flags", "guest", "vcpu" },
+      .use = { [STORE] = READ, [BUFFER] = WRITTEN }, .weight = { 50, 60, 20 },
+      .answers = A(0) | A(1) | A(2) | A(3) | A(4) | A(5) | A(6) | A(7), .both = A(6) | A(7),
+      .supported = ADK_GUEST_WIDE, .access = R, .wide = false },
+    { "get_state, wide", STATE(get_state), .number = { "flags", "guest", "vcpu" },
+      .use = { [STORE] = READ, [BUFFER] = WRITTEN }, .weight = { 25, 30, 15 },
+      .answers = A(0) | A(1) | A(2) | A(3) | A(5) | A(6) | A(7), .both = A(6) | A(7),
+      .supported = ADK_GUEST_WIDE, .access = R, .wide = true },
+    { "set_state, thread", STATE(set_state), .number = { "flags", "guest", "vcpu" },
+      .use = { [STORE] = WRITTEN, [BUFFER] = READ }, .weight = { 70, 90, 30 },
+      .answers = A(0) | A(1) | A(2) | A(3) | A(4) | A(5) | A(6) | A(7) | A(8), .both = A(6) | A(7) | A(8),
+      .supported = ADK_GUEST_WIDE, .access = W, .wide = false },
+    { "set_state, wide", STATE(set_state), .number = { "flags", "guest", "vcpu" },
+      .use = { [STORE] = WRITTEN, [BUFFER] = READ }, .weight = { 40, 50, 25 },
+      .answers = A(0) | A(1) | A(2) | A(3) | A(5) | A(6) | A(7) | A(8), .both = A(6) | A(7) | A(8),
+      .supported = ADK_GUEST_WIDE, .access = W, .wide = true },
+    { "run_vcpu", ON(run_vcpu), .number = { "flags", "guest", "vcpu", "exit_reason" },
+      .use = { [STORE] = WRITTEN, [INPUT] = READ, [OUTPUT] = WRITTEN, [EFFECT] = READ }, .weight = { 130, 170, 50 },
+      .answers = A(0) | A(1) | A(2) | A(3) | A(4) | A(6) | A(7) | A(11) | A(12) | A(13) | A(14),
+      .both = A(11) | A(12) | A(14), .supported = RUN_FLAGS },
+    { "delete_guest", ON(delete_guest), .number = { "flags", "guest" }, .use = { [STORE] = WRITTEN },
+      .weight = { 3, 15, 40 }, .answers = A(0) | A(1) | A(2) | A(3), .supported = ADK_DELETE_ALL },
+    { "guest_clock", ON(guest_clock), .number = { "guest", "timebase" }, .use = { [STORE] = READ },
+      .weight = { 15, 15, 15 }, .answers = A(0) | A(1) | A(3) },
+    { "lookup", ON(lookup), .number = { "id" }, .use = { [BUFFER] = READ }, .weight = { 50, 50, 50 },
+      .answers = A(0) | A(5) | A(6) | A(7), .both = A(6) | A(7) },
 };
+
+static bool is_run(const struct kind *k)
+{
+    return k->use[EFFECT] != NOT_LENT;
+}
 
 static const struct kind *any_kind(unsigned mood)
 {
@@ -1013,11 +1192,15 @@ struct run {
     uint64_t seed, calls, number;
     bool quiet;
     uint64_t tally[COUNT(KINDS)][ANSWERS];
-    uint64_t bad_bits[COUNT(KINDS)];         /* the bits told as r4 of answer 2 */
-    uint32_t lengths[COUNT(KINDS)];          /* which of LENGTHS a buffer had that was judged */
-    bool used[RW][0x10000];                  /* for R and for W, the IDs that were read or set */
-    bool refused[COUNT(KINDS)][COUNT(ROWS)]; /* the rows of which an ID was refused */
-    bool edges[COUNT(VALUE_EDGES)];          /* those that were judged as their row says */
+    unsigned with_r4[COUNT(KINDS)][2];           /* the answers given with r4 0, and with another r4 */
+    uint64_t bad_bits[COUNT(KINDS)];             /* the bits told as r4 of answer 2 */
+    uint32_t lengths[COUNT(KINDS)];              /* which of LENGTHS a buffer or an effect had that was judged */
+    uint8_t used[0x10000];                       /* how an ID was used: read, set, or taken by a run */
+    uint8_t refused[COUNT(KINDS)][COUNT(ROWS)];  /* the uses for which an ID of the row was refused */
+    bool edges[COUNT(VALUE_EDGES)];              /* those that were judged as their row says */
+    bool registered[COUNT(VALUE_EDGES)];         /* the same of sizes that a run met */
+    bool lent[2][3];                             /* of input and output: one byte short, as registered, one more */
+    bool exits[COUNT(EXITS)], no_exits[COUNT(NO_EXITS)];
 };
 
 static const size_t LENGTHS[] = { 0, 1, 2, 3, 4, 5, 6, 7, 8, ADK_BUFFER_MAX - 1, ADK_BUFFER_MAX, ADK_BUFFER_MAX + 1 };
@@ -1137,52 +1320,114 @@ static const uint8_t *next_element(const uint8_t *element)
     return element + 4 + load(element + 2, 2);
 }
 
-static void note_accepted(struct run *r, unsigned access)
+static void note_accepted(struct run *r, enum piece p, unsigned access)
 {
-    const uint8_t *b = memory[BEFORE][BUFFER], *element = b + 4;
+    const uint8_t *b = memory[BEFORE][p], *element = b + 4;
     for (uint64_t left = load(b, 4); left > 0; left--, element = next_element(element)) {
-        r->used[access][load(element, 2)] = true;
+        r->used[load(element, 2)] |= (uint8_t)access;
         if (access == W)
             note_edge(r, element, true);
     }
 }
 
-/* The elements before the bad one are good, so they can be walked. */
-static void note_bad(struct run *r, size_t k, const adk_found *f)
+/* An element that was refused for its ID or its value, or in an effect for anything. */
+static void note_bad(struct run *r, size_t k, const uint8_t *element, unsigned access, bool value)
 {
-    const uint8_t *element = memory[BEFORE][BUFFER] + 4;
-    for (uint64_t i = 0; i < f->r4; i++)
-        element = next_element(element);
     const struct row *row = row_of((unsigned)load(element, 2));
-    if (f->r3 == ADK_INVALID_ELEMENT_VALUE)
+    if (value)
         note_edge(r, element, false);
     else if (row != NULL)
-        r->refused[k][row - ROWS] = true;
+        r->refused[k][row - ROWS] |= (uint8_t)access;
+}
+
+static void note_state(struct run *r, const struct call *c, const adk_found *f)
+{
+    if (f->r3 == ADK_OK)
+        note_accepted(r, BUFFER, c->kind->access);
+    if (f->r3 != ADK_INVALID_ELEMENT_ID && f->r3 != ADK_INVALID_ELEMENT_VALUE)
+        return;
+    const uint8_t *element = memory[BEFORE][BUFFER] + 4;
+    for (uint64_t i = 0; i < f->r4; i++)
+        element = next_element(element); /* those before the bad one are good, so they can be walked */
+    note_bad(r, (size_t)(c->kind - KINDS), element, c->kind->access, f->r3 == ADK_INVALID_ELEMENT_VALUE);
+}
+
+/* How many of the tests 11 input, 11 output, 12 input and 12 output, in this order, a run passed, if it came there. */
+static unsigned passed_tests(const adk_found *f)
+{
+    if (f->r3 == ADK_NOT_REGISTERED)
+        return (unsigned)f->r4;
+    return f->r3 == ADK_LENT_TOO_SHORT ? 2 + (unsigned)f->r4 : 4;
+}
+
+/* which: 0 the input, 1 the output. */
+static void note_run_buffer(struct run *r, const struct call *c, const adk_found *f, unsigned which)
+{
+    unsigned passed = passed_tests(f);
+    uint64_t size = registered_size(slot_of(c), 0x0C00 + which), len = c->len[which == 0 ? INPUT : OUTPUT];
+    for (size_t i = 0; i < COUNT(VALUE_EDGES) && passed >= which; i++)
+        if (VALUE_EDGES[i].id == 0x0C00 + which && VALUE_EDGES[i].value == size)
+            r->registered[i] |= VALUE_EDGES[i].good == (passed > which);
+    if (passed >= 2 + which && len + 1 >= size && len <= size + 1)
+        r->lent[which][len + 1 - size] |= (len >= size) == (passed > 2 + which);
+}
+
+static void note_run(struct run *r, const struct call *c, const adk_found *f)
+{
+    size_t k = (size_t)(c->kind - KINDS);
+    if (f->r3 == ADK_OK) {
+        note_accepted(r, INPUT, RUN_IN);
+        note_accepted(r, EFFECT, RUN_EFFECT);
+    }
+    if (f->r3 == ADK_INVALID_ELEMENT_ID)
+        note_bad(r, k, memory[BEFORE][INPUT] + f->r4, RUN_IN, false);
+    if (f->r3 == ADK_BAD_EFFECT && f->r4 != 0 && c->len[EFFECT] - f->r4 >= 4)
+        note_bad(r, k, memory[BEFORE][EFFECT] + f->r4, RUN_EFFECT, false);
+    if (f->r3 == ADK_OK || f->r3 > ADK_BAD_VCPU) {
+        note_run_buffer(r, c, f, 0);
+        note_run_buffer(r, c, f, 1);
+    }
+    for (size_t i = 0; i < COUNT(EXITS); i++)
+        r->exits[i] |= f->r3 == ADK_OK && c->n[3] == EXITS[i];
+    for (size_t i = 0; i < COUNT(NO_EXITS); i++)
+        r->no_exits[i] |= f->r3 == ADK_UNKNOWN_EXIT && c->n[3] == NO_EXITS[i];
+}
+
+/* The length that 5 or, in a run, 14 judged; or one that is no edge. */
+static size_t judged_length(const struct call *c, const adk_found *f)
+{
+    bool run = is_run(c->kind);
+    if (f->r3 != ADK_OK && f->r3 < (run ? ADK_BAD_EFFECT : ADK_BAD_LENGTH))
+        return SIZE_MAX;
+    return c->len[run ? EFFECT : BUFFER];
 }
 
 static void note(struct run *r, const struct call *c, const adk_found *f)
 {
-    size_t k = (size_t)(c->kind - KINDS);
+    size_t k = (size_t)(c->kind - KINDS), len = judged_length(c, f);
     r->tally[k][f->r3]++;
+    r->with_r4[k][f->r4 != 0] |= A(f->r3);
     if (f->r3 == ADK_BAD_FLAG)
         r->bad_bits[k] |= ADK_BIT(f->r4 & 63);
-    if (f->r3 == ADK_OK || f->r3 >= ADK_BAD_LENGTH)
-        for (size_t i = 0; i < COUNT(LENGTHS); i++)
-            if (c->len[BUFFER] == LENGTHS[i])
-                r->lengths[k] |= A(i);
-    if (c->kind->access == 0)
-        return;
-    if (f->r3 == ADK_OK)
-        note_accepted(r, c->kind->access);
-    else if (f->r3 == ADK_INVALID_ELEMENT_ID || f->r3 == ADK_INVALID_ELEMENT_VALUE)
-        note_bad(r, k, f);
+    for (size_t i = 0; i < COUNT(LENGTHS); i++)
+        if (len == LENGTHS[i])
+            r->lengths[k] |= A(i);
+    if (c->kind->access != 0)
+        note_state(r, c, f);
+    else if (is_run(c->kind))
+        note_run(r, c, f);
 }
 
-/* One call on both sides; 0 if nothing differs. */
-static int compare_call(struct run *r, const struct call *c)
+/* One call on both sides; 0 if nothing differs. expected is the answer, or NULL where only the model tells it. */
+static int compare_call(struct run *r, const struct call *c, const adk_found *expected)
 {
     adk_found lib = c->kind->library(c, memory[LIBRARY]);
     adk_found mdl = c->kind->model(c, memory[MODEL]);
+    if (expected != NULL && !same_answer(&lib, expected)) {
+        report(r, "order", c, &lib, &mdl);
+        print_answer("expected", expected);
+        return 1;
+    }
     if (!same_answer(&lib, &mdl))
         return report(r, "agreement", c, &lib, &mdl);
     for (int p = 0; p < PIECES; p++) {
@@ -1196,12 +1441,102 @@ static int compare_call(struct run *r, const struct call *c)
     return 0;
 }
 
-static int compare_calls(struct run *r)
+/* ---- Every set of faults of a run ---- */
+
+/* In the order of the scope, with their answers. */
+enum fault {
+    ILL_FORMED,
+    FLAG,
+    GUEST,
+    VCPU,
+    INPUT_UNREGISTERED,
+    OUTPUT_UNREGISTERED,
+    INPUT_SHORT,
+    OUTPUT_SHORT,
+    INPUT_ELEMENT,
+    EXIT,
+    EFFECT_LENGTH,
+    EFFECT_ELEMENT,
+    FAULTS
+};
+
+static const adk_found FAULT_ANSWER[FAULTS] = {
+    [ILL_FORMED] = { .r3 = 1 },
+    [FLAG] = { .r3 = 2, .r4 = 3 },
+    [GUEST] = { .r3 = 3 },
+    [VCPU] = { .r3 = 4 },
+    [INPUT_UNREGISTERED] = { .r3 = 11, .r4 = 0 },
+    [OUTPUT_UNREGISTERED] = { .r3 = 11, .r4 = 1 },
+    [INPUT_SHORT] = { .r3 = 12, .r4 = 0 },
+    [OUTPUT_SHORT] = { .r3 = 12, .r4 = 1 },
+    [INPUT_ELEMENT] = { .r3 = 6, .r4 = 16 },
+    [EXIT] = { .r3 = 13 },
+    [EFFECT_LENGTH] = { .r3 = 14, .r4 = 0 },
+    [EFFECT_ELEMENT] = { .r3 = 14, .r4 = 16 },
+};
+
+/* Lends a buffer of two elements of 8 bytes, the second at offset 16. */
+static void lend_two(struct call *c, enum piece piece, unsigned first, unsigned second)
+{
+    struct build g = begin_build(piece, 0, false);
+    g.len = 4;
+    add_element(&g, first, 8);
+    add_element(&g, second, 8);
+    put_count(&g);
+    lend(c, &g);
+}
+
+/* A run of vCPU 0 of guest 1, in the first slot, with these faults, each of which can be there beside the others. */
+static void faulty_run(struct call *c, unsigned faults)
+{
+    uint8_t *s = memory[BEFORE][STORE];
+    memset(s, 0, ADK_STORE_SIZE);
+    s[LIVE] = 0x80;
+    s[ZERO] = (faults & A(ILL_FORMED)) != 0;
+    put_word(s, 0, word_of(1, 0));
+    put_registered_size(0, 0x0C00, faults & A(INPUT_UNREGISTERED) ? 3 : 28);
+    put_registered_size(0, 0x0C01, faults & A(OUTPUT_UNREGISTERED) ? 123 : 124);
+    share(STORE, 0, ADK_STORE_SIZE);
+    lend_two(c, INPUT, 0x1003, faults & A(INPUT_ELEMENT) ? 0x1054 : 0x1004);
+    lend_two(c, EFFECT, 0x1003, faults & A(EFFECT_ELEMENT) ? 0x0C02 : 0xF000);
+    c->len[STORE] = ADK_STORE_SIZE;
+    c->len[OUTPUT] = faults & A(OUTPUT_SHORT) ? 122 : 124;
+    if (faults & A(INPUT_SHORT))
+        c->len[INPUT] = 2;
+    if (faults & A(EFFECT_LENGTH))
+        c->len[EFFECT] = 3;
+    c->n[0] = faults & A(FLAG) ? ADK_BIT(3) : 0;
+    c->n[1] = faults & A(GUEST) ? 2 : 1;
+    c->n[2] = faults & A(VCPU) ? 1 : 0;
+    c->n[3] = faults & A(EXIT) ? 0xC01 : 0xC00;
+}
+
+static int compare_order(struct run *r)
+{
+    const adk_found accepted = { .r3 = 0, .r4 = 0xC00 };
+    struct call c = { .kind = KINDS };
+    while (!is_run(c.kind))
+        c.kind++;
+    for (unsigned faults = 0; faults < A(FAULTS) && r->number < r->calls; faults++) {
+        unsigned first = 0;
+        while (first < FAULTS && !(faults & A(first)))
+            first++;
+        faulty_run(&c, faults);
+        r->number++;
+        if (compare_call(r, &c, first == FAULTS ? &accepted : &FAULT_ANSWER[first]) != 0)
+            return 1;
+    }
+    return 0;
+}
+
+/* ---- A mix of calls ---- */
+
+static int compare_mix(struct run *r)
 {
     unsigned mood = 0;
     memset(memory[BEFORE][STORE], 0, ADK_STORE_SIZE);
     share(STORE, 0, ADK_STORE_SIZE);
-    for (r->number = 1; r->number <= r->calls; r->number++) {
+    while (r->number++ < r->calls) {
         if (r->number % 256 == 0)
             mood = below(MOODS);
         damage_or_repair();
@@ -1211,7 +1546,7 @@ static int compare_calls(struct run *r)
             set_tb_offset();
         struct call c = { any_kind(mood), { 0 }, { 0 } };
         c.kind->choose(&c);
-        if (compare_call(r, &c) != 0)
+        if (compare_call(r, &c, NULL) != 0)
             return 1;
     }
     return 0;
@@ -1234,67 +1569,95 @@ static void print_tally(const struct run *r)
     int highest = highest_answer();
     printf("%-18s", "answer");
     for (int a = 0; a <= highest; a++)
-        printf("%9d", a);
+        printf("%8d", a);
     printf("\n");
     for (size_t k = 0; k < COUNT(KINDS); k++) {
         printf("%-18s", KINDS[k].name);
         for (int a = 0; a <= highest; a++)
             if (KINDS[k].answers & A(a))
-                printf("%9" PRIu64, r->tally[k][a]);
+                printf("%8" PRIu64, r->tally[k][a]);
             else
-                printf("%9s", "-");
+                printf("%8s", "-");
         printf("\n");
     }
+}
+
+static bool lengths_covered(const struct run *r, size_t k)
+{
+    bool all = true;
+    if (KINDS[k].use[BUFFER] == NOT_LENT && !is_run(&KINDS[k]))
+        return true;
+    for (size_t i = 0; i < COUNT(LENGTHS); i++)
+        if (!(r->lengths[k] & A(i))) {
+            printf("  %s never judged a length of %zu bytes\n", KINDS[k].name, LENGTHS[i]);
+            all = false;
+        }
+    return all;
 }
 
 /* Whether the call gave each answer that it can give; names those that are missing. */
 static bool covered(const struct run *r, size_t k)
 {
     bool all = true;
-    for (int a = 0; a < ANSWERS; a++)
+    for (int a = 0; a < ANSWERS; a++) {
         if (KINDS[k].answers & A(a) && r->tally[k][a] == 0) {
             printf("  %s never gave %d\n", KINDS[k].name, a);
             all = false;
         }
+        if (KINDS[k].both & A(a) & ~(r->with_r4[k][0] & r->with_r4[k][1])) {
+            printf("  %s never gave %d with r4 %s\n", KINDS[k].name, a, r->with_r4[k][0] & A(a) ? "not 0" : "0");
+            all = false;
+        }
+    }
     uint64_t bits = ~KINDS[k].supported & ~r->bad_bits[k];
     if (KINDS[k].answers & A(ADK_BAD_FLAG) && bits != 0) {
         printf("  %s never gave 2 with r4 the number of a bit of 0x%016" PRIX64 "\n", KINDS[k].name, bits);
         all = false;
     }
-    for (size_t i = 0; i < COUNT(LENGTHS); i++)
-        if (KINDS[k].use[BUFFER] != NOT_LENT && !(r->lengths[k] & A(i))) {
-            printf("  %s never judged a buffer of %zu bytes\n", KINDS[k].name, LENGTHS[i]);
-            all = false;
+    return lengths_covered(r, k) && all;
+}
+
+static const struct {
+    unsigned access;
+    const char *missing;
+} USES[] = {
+    { R, "get_state never read" },
+    { W, "set_state never set" },
+    { RUN_IN, "run_vcpu never set by its input" },
+    { RUN_EFFECT, "run_vcpu never set by its effect" },
+};
+
+/* Whether each element, the NOP too, was used wherever it may be. */
+static bool elements_covered(const struct run *r)
+{
+    bool all = true;
+    for (size_t u = 0; u < COUNT(USES); u++)
+        for (unsigned id = 0; id <= 0xFFFF; id++) {
+            const struct row *row = row_of(id);
+            unsigned access = id == ADK_GSID_NOP ? ALL : row != NULL ? row->access : 0;
+            if (access & USES[u].access & ~r->used[id]) {
+                printf("  %s 0x%04X\n", USES[u].missing, id);
+                all = false;
+            }
         }
     return all;
 }
 
-/* Whether each element, the NOP too, was read and set where its access permits. */
-static bool elements_covered(const struct run *r)
-{
-    bool all = r->used[R][ADK_GSID_NOP] && r->used[W][ADK_GSID_NOP];
-    if (!all)
-        printf("  get_state or set_state never accepted the NOP\n");
-    for (unsigned access = R; access <= W; access++)
-        for (size_t i = 0; i < COUNT(ROWS); i++)
-            for (unsigned id = ROWS[i].first; id <= ROWS[i].last; id++)
-                if (ROWS[i].access & access && !r->used[access][id]) {
-                    printf("  %s 0x%04X\n", access == R ? "get_state never read" : "set_state never set", id);
-                    all = false;
-                }
-    return all;
-}
-
-/* Whether get and set state refused each row that is of the wrong scope or not permitted. */
+/* Whether get and set state, a run's input and its effect refused each row that is of the wrong scope or not
+   permitted. */
 static bool refusals_covered(const struct run *r)
 {
     bool all = true;
-    for (size_t k = 0; k < COUNT(KINDS); k++)
-        for (size_t i = 0; i < COUNT(ROWS); i++)
-            if (KINDS[k].access != 0 && !takes(&KINDS[k], &ROWS[i]) && !r->refused[k][i]) {
-                printf("  %s never refused 0x%04X to 0x%04X\n", KINDS[k].name, ROWS[i].first, ROWS[i].last);
-                all = false;
-            }
+    for (size_t k = 0; k < COUNT(KINDS); k++) {
+        unsigned uses = is_run(&KINDS[k]) ? RUN_IN | RUN_EFFECT : KINDS[k].access;
+        for (unsigned use = 1; use <= uses; use *= 2)
+            for (size_t i = 0; i < COUNT(ROWS); i++)
+                if (uses & use && !takes(use, KINDS[k].wide, &ROWS[i]) && !(r->refused[k][i] & use)) {
+                    printf("  %s never refused 0x%04X to 0x%04X%s\n", KINDS[k].name, ROWS[i].first, ROWS[i].last,
+                           use == RUN_EFFECT ? " in an effect" : "");
+                    all = false;
+                }
+    }
     return all;
 }
 
@@ -1311,17 +1674,46 @@ static bool edges_covered(const struct run *r)
     return all;
 }
 
+/* Whether a run met each edge of a registered size, of what is lent of it, and of an exit reason. */
+static bool runs_covered(const struct run *r)
+{
+    bool all = true;
+    for (size_t i = 0; i < COUNT(VALUE_EDGES); i++)
+        if (VALUE_EDGES[i].id != 0x0003 && !r->registered[i]) {
+            printf("  run_vcpu never met 0x%04X with size 0x%" PRIX64 "\n", VALUE_EDGES[i].id, VALUE_EDGES[i].value);
+            all = false;
+        }
+    for (int which = 0; which < 2; which++)
+        for (int i = 0; i < 3; i++)
+            if (!r->lent[which][i]) {
+                printf("  run_vcpu was never lent %d bytes more than registered of 0x%04X\n", i - 1, 0x0C00 + which);
+                all = false;
+            }
+    for (size_t i = 0; i < COUNT(EXITS); i++)
+        if (!r->exits[i]) {
+            printf("  run_vcpu never accepted exit 0x%03" PRIX64 "\n", EXITS[i]);
+            all = false;
+        }
+    for (size_t i = 0; i < COUNT(NO_EXITS); i++)
+        if (!r->no_exits[i]) {
+            printf("  run_vcpu never refused exit 0x%03" PRIX64 "\n", NO_EXITS[i]);
+            all = false;
+        }
+    return all;
+}
+
 static int finish(const struct run *r)
 {
     if (!r->quiet)
         print_tally(r);
-    printf("passed compare agreement\npassed compare unchanged\npassed compare guards\n");
+    printf("passed compare agreement\npassed compare unchanged\npassed compare guards\npassed compare order\n");
     bool all = true;
     for (size_t k = 0; k < COUNT(KINDS); k++)
         all = covered(r, k) && all;
     all = elements_covered(r) && all;
     all = refusals_covered(r) && all;
     all = edges_covered(r) && all;
+    all = runs_covered(r) && all;
     printf("%s compare coverage\n", all ? "passed" : "failed");
     return all ? 0 : 1;
 }
@@ -1359,13 +1751,13 @@ static bool read_options(struct run *r, int argc, char **argv)
 
 int main(int argc, char **argv)
 {
-    static struct run r = { .seed = UINT64_C(0xADDE24207), .calls = 1000000 };
+    static struct run r = { .seed = UINT64_C(0xADDE24207), .calls = 2000000 };
     if (!read_options(&r, argc, argv))
         return usage();
     printf("compare: %" PRIu64 " calls, seed 0x%" PRIX64 "\n", r.calls, r.seed);
     chance_state = r.seed;
     make_memory();
-    int result = compare_calls(&r) != 0 ? 1 : finish(&r);
+    int result = compare_order(&r) != 0 || compare_mix(&r) != 0 ? 1 : finish(&r);
     free_memory();
     return result;
 }

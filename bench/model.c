@@ -30,9 +30,10 @@ enum { USED = 0x8000, GUEST_SHIFT = 11, GUEST_MASK = 15 };
 /* "The store": offered are bits 1 and 2, 0x6000000000000000. */
 static const uint64_t OFFERED = UINT64_C(0x6000000000000000);
 
-/* "Answers", flag bits: bit 0, the most significant, is guest-wide in get and set state and all guests in delete; the
-   other calls here support none. */
+/* "Answers", flag bits: bit 0, the most significant, is guest-wide in get and set state and all guests in delete; run
+   supports bits 0 to 2; the other calls none. */
 static const uint64_t BIT_0 = UINT64_C(0x8000000000000000);
+static const uint64_t BITS_0_TO_2 = UINT64_C(0xE000000000000000);
 
 /* "The store" and "The guest state buffer": numbers have their most significant byte first. */
 static uint64_t big64(uint64_t v)
@@ -65,6 +66,12 @@ static void store16(uint8_t *p, unsigned v)
 {
     p[0] = (uint8_t)(v >> 8);
     p[1] = (uint8_t)v;
+}
+
+static void store32(uint8_t *p, uint32_t v)
+{
+    store16(p, v >> 16);
+    store16(p + 2, v);
 }
 
 static void store64(uint8_t *p, uint64_t v)
@@ -213,15 +220,20 @@ adk_answer mdl_create_vcpu(uint8_t *store, size_t store_len, uint64_t flags, uin
 
 /*
  * "The guest state buffer", the list: R and W in each scope, as bits of one number. A call asks for one of them, since
- * get needs R or RW, set needs W or RW, and the scope must be the call's. An ID with none is unlisted.
+ * get needs R or RW, set needs W or RW, and the scope must be the call's. An ID with none is unlisted. A run asks for
+ * two more: its input takes what a thread set takes, except 0x0C00 and 0x0C01; an effect takes any listed thread
+ * element except 0x0C00 to 0x0C02.
  */
 enum {
     GUEST_R = 1,
     GUEST_W = 2,
     THREAD_R = 4,
     THREAD_W = 8,
+    INPUT = 16,
+    EFFECT = 32,
     GUEST_RW = GUEST_R | GUEST_W,
-    THREAD_RW = THREAD_R | THREAD_W
+    THREAD_RW = THREAD_R | THREAD_W,
+    REGISTER = THREAD_RW | INPUT | EFFECT
 };
 
 /* The elements that are more than a row of the list. */
@@ -241,16 +253,17 @@ struct element {
     unsigned at; /* "The store": its place in the 52 bytes of a guest or the 1,820 of a slot */
 };
 
-static inline struct element element(unsigned id)
+/* In line at every use, which the compiler would not do by itself: speed.c measures the library by this code. */
+__attribute__((always_inline)) static inline struct element element(unsigned id)
 {
     if (id >= 0x1000 && id <= 0x1053)
-        return (struct element){ id == PPR ? THREAD_W : THREAD_RW, 8, 40 + 8 * (id - 0x1000) };
+        return (struct element){ id == PPR ? REGISTER & ~THREAD_R : REGISTER, 8, 40 + 8 * (id - 0x1000) };
     if (id >= 0x3000 && id <= 0x303F)
-        return (struct element){ THREAD_RW, 16, 772 + 16 * (id - 0x3000) };
+        return (struct element){ REGISTER, 16, 772 + 16 * (id - 0x3000) };
     if (id >= 0x2000 && id <= 0x200E)
-        return (struct element){ THREAD_RW, 4, 712 + 4 * (id - 0x2000) };
+        return (struct element){ REGISTER, 4, 712 + 4 * (id - 0x2000) };
     switch (id) {
-    case NOP: return (struct element){ GUEST_RW | THREAD_RW, 0, 0 };
+    case NOP: return (struct element){ GUEST_RW | REGISTER, 0, 0 };
     case VCPU_STATE_SIZE:
     case RUN_OUTPUT_SIZE: return (struct element){ GUEST_R, 8, 0 };
     case LOGICAL_PVR: return (struct element){ GUEST_RW, 4, 0 };
@@ -259,11 +272,11 @@ static inline struct element element(unsigned id)
     case 0x0006: return (struct element){ GUEST_RW, 16, 36 };
     case RUN_INPUT: return (struct element){ THREAD_RW, 16, 0 };
     case RUN_OUTPUT: return (struct element){ THREAD_RW, 16, 16 };
-    case 0x0C02: return (struct element){ THREAD_RW, 8, 32 };
-    case 0xF000: return (struct element){ THREAD_R, 8, 1796 };
-    case 0xF001: return (struct element){ THREAD_R, 4, 1804 };
-    case 0xF002: return (struct element){ THREAD_R, 4, 1808 };
-    case 0xF003: return (struct element){ THREAD_R, 8, 1812 };
+    case 0x0C02: return (struct element){ THREAD_RW | INPUT, 8, 32 };
+    case 0xF000: return (struct element){ THREAD_R | EFFECT, 8, 1796 };
+    case 0xF001: return (struct element){ THREAD_R | EFFECT, 4, 1804 };
+    case 0xF002: return (struct element){ THREAD_R | EFFECT, 4, 1808 };
+    case 0xF003: return (struct element){ THREAD_R | EFFECT, 8, 1812 };
     default: return (struct element){ 0, 0, 0 };
     }
 }
@@ -289,50 +302,57 @@ static bool good_value(unsigned id, const uint8_t *value, uint64_t capabilities)
     }
 }
 
+/* "The guest state buffer": R3 and both forms of place. A run tells the byte offset, the other calls the index. */
+struct verdict {
+    unsigned r3;
+    uint32_t index;
+    size_t offset;
+};
+
 /*
  * "The guest state buffer", for each element in turn: a header that does not fit is 7; then the ID, 6; then the size,
- * 7, of which the NOP has any; then 7 if the value runs past the end; then, when setting, the value rule, 8. Place is
- * the array index from 0. wanted is the one access that the call asks for.
+ * 7, of which the NOP has any; then 7 if the value runs past the end; then, when setting, the value rule, 8. wanted is
+ * the one access that the call asks for. No element that a run takes has a value rule.
  */
-static inline adk_answer first_bad(const uint8_t *buffer, size_t len, unsigned wanted, uint64_t capabilities)
+static inline struct verdict first_bad(const uint8_t *buffer, size_t len, unsigned wanted, uint64_t capabilities)
 {
     uint32_t count = load32(buffer);
     size_t at = 4;
     for (uint32_t index = 0; index < count; index++) {
         if (len - at < 4)
-            return answer(7, index);
+            return (struct verdict){ 7, index, at };
         uint32_t header = load32(buffer + at);
         unsigned id = header >> 16, size = header & 0xFFFF;
         struct element e = element(id);
         at += 4;
         if ((e.access & wanted) == 0)
-            return answer(6, index);
+            return (struct verdict){ 6, index, at - 4 };
         if (size != e.size && id != NOP)
-            return answer(7, index);
+            return (struct verdict){ 7, index, at - 4 };
         if (len - at < size)
-            return answer(7, index);
+            return (struct verdict){ 7, index, at - 4 };
         if ((wanted & (GUEST_W | THREAD_W)) != 0 && !good_value(id, buffer + at, capabilities))
-            return answer(8, index);
+            return (struct verdict){ 8, index, at - 4 };
         at += size;
     }
-    return answer(0, 0);
+    return (struct verdict){ 0, 0, 0 };
 }
 
 /*
- * "Answers", get and set state 1, 2, 3, 4, 5, then the elements; guest-wide the vCPU id is ignored. After 0, *values is
- * where in the store the guest's or the vCPU's values begin.
+ * "Answers", the tests 1, 2, 3 and 4 of get and set state and run; guest-wide the vCPU id is ignored. After 0, *values
+ * is where in the store the guest's or the vCPU's values begin.
  */
-static adk_answer state_values(const uint8_t *s, size_t len, uint64_t flags, uint64_t guest, uint64_t vcpu,
-                               size_t buffer_len, size_t *values)
+static adk_answer target(const uint8_t *s, size_t len, uint64_t bad_flags, bool wide, uint64_t guest, uint64_t vcpu,
+                         size_t *values)
 {
     if (!well_formed(s, len))
         return answer(1, 0);
-    if ((flags & ~BIT_0) != 0)
-        return bad_flag(flags & ~BIT_0);
+    if (bad_flags != 0)
+        return bad_flag(bad_flags);
     if (!live(s, guest))
         return answer(3, 0);
     *values = GUEST_VALUES + GUEST_SIZE * (guest - 1);
-    if (flags == 0) {
+    if (!wide) {
         if (vcpu > VCPU_MAX)
             return answer(4, 0);
         unsigned slot = slot_with(s, USED | (unsigned)guest << GUEST_SHIFT | (unsigned)vcpu);
@@ -340,7 +360,26 @@ static adk_answer state_values(const uint8_t *s, size_t len, uint64_t flags, uin
             return answer(4, 0);
         *values = SLOT_VALUES + SLOT_SIZE * slot;
     }
-    return buffer_len < 4 || buffer_len > 65536 ? answer(5, 0) : answer(0, 0);
+    return answer(0, 0);
+}
+
+/* "Answers", 5, and 14 with R4 0: a buffer under 4 or over 65,536 bytes. */
+static bool bad_length(size_t len)
+{
+    return len < 4 || len > 65536;
+}
+
+/* "Answers", get and set state 1, 2, 3, 4, 5, then the elements, of which the place is the index. */
+static inline adk_answer judge_state(const uint8_t *s, size_t len, uint64_t flags, uint64_t guest, uint64_t vcpu,
+                                     const uint8_t *buffer, size_t buffer_len, unsigned wanted, size_t *values)
+{
+    adk_answer a = target(s, len, flags & ~BIT_0, flags != 0, guest, vcpu, values);
+    if (a.r3 != 0)
+        return a;
+    if (bad_length(buffer_len))
+        return answer(5, 0);
+    struct verdict v = first_bad(buffer, buffer_len, wanted, load64(s + CAPABILITIES));
+    return answer(v.r3, v.index);
 }
 
 /*
@@ -397,9 +436,8 @@ adk_answer mdl_get_state(const uint8_t *store, size_t store_len, uint64_t flags,
                          uint8_t *buffer, size_t buffer_len)
 {
     size_t values;
-    adk_answer a = state_values(store, store_len, flags, guest, vcpu, buffer_len, &values);
-    if (a.r3 == 0)
-        a = first_bad(buffer, buffer_len, flags != 0 ? GUEST_R : THREAD_R, 0);
+    adk_answer a = judge_state(store, store_len, flags, guest, vcpu, buffer, buffer_len,
+                               flags != 0 ? GUEST_R : THREAD_R, &values);
     if (a.r3 == 0)
         fill(buffer, store + values);
     return a;
@@ -410,12 +448,110 @@ adk_answer mdl_set_state(uint8_t *store, size_t store_len, uint64_t flags, uint6
                          const uint8_t *buffer, size_t buffer_len)
 {
     size_t values;
-    adk_answer a = state_values(store, store_len, flags, guest, vcpu, buffer_len, &values);
-    if (a.r3 == 0)
-        a = first_bad(buffer, buffer_len, flags != 0 ? GUEST_W : THREAD_W, load64(store + CAPABILITIES));
+    adk_answer a = judge_state(store, store_len, flags, guest, vcpu, buffer, buffer_len,
+                               flags != 0 ? GUEST_W : THREAD_W, &values);
     if (a.r3 == 0)
         apply(store + values, buffer);
     return a;
+}
+
+/* "Run", the table: the exits and their elements, in the order given. */
+static const struct exit_row {
+    uint64_t reason;
+    uint32_t count;
+    uint16_t ids[10];
+} EXITS[] = {
+    { 0xC00, 10, { 0x1003, 0x1004, 0x1005, 0x1006, 0x1007, 0x1008, 0x1009, 0x100A, 0x100B, 0x100C } },
+    { 0xE00, 3, { 0xF000, 0xF001, 0xF003 } },
+    { 0xE20, 1, { 0xF003 } },
+    { 0xE40, 1, { 0xF002 } },
+    { 0xF80, 1, { 0x102D } },
+    { 0x000, 0, { 0 } },
+    { 0x980, 0, { 0 } },
+};
+
+/* The row of an exit reason, or NULL if it is unknown. */
+static const struct exit_row *exit_row(uint64_t reason)
+{
+    for (size_t i = 0; i < sizeof EXITS / sizeof EXITS[0]; i++)
+        if (EXITS[i].reason == reason)
+            return &EXITS[i];
+    return NULL;
+}
+
+/* "Run": the size that is stored in 0x0C00 or 0x0C01. */
+static uint64_t registered_size(const uint8_t *values, unsigned id)
+{
+    return load64(values + element(id).at + 8);
+}
+
+/* "Answers", 11 and 12, of both input before output. "Run": a run buffer counts as registered when its stored size
+   meets the value rule. */
+static adk_answer judge_lent(const uint8_t *values, size_t input_len, size_t output_len)
+{
+    if (!good_value(RUN_INPUT, values + element(RUN_INPUT).at, 0))
+        return answer(11, 0);
+    if (!good_value(RUN_OUTPUT, values + element(RUN_OUTPUT).at, 0))
+        return answer(11, 1);
+    if (input_len < registered_size(values, RUN_INPUT))
+        return answer(12, 0);
+    if (output_len < registered_size(values, RUN_OUTPUT))
+        return answer(12, 1);
+    return answer(0, 0);
+}
+
+/* "Answers", 14: the byte offset of the first bad element, 0 if the length is bad. */
+static adk_answer judge_effect(const uint8_t *effect, size_t len)
+{
+    if (bad_length(len))
+        return answer(14, 0);
+    struct verdict v = first_bad(effect, len, EFFECT, 0);
+    return v.r3 != 0 ? answer(14, v.offset) : answer(0, 0);
+}
+
+/* "Run": a count and elements in the order given, the rest untouched. */
+static void write_output(uint8_t *output, const uint8_t *values, const struct exit_row *row)
+{
+    uint8_t *p = output + 4;
+    store32(output, row->count);
+    for (uint32_t i = 0; i < row->count; i++) {
+        struct element e = element(row->ids[i]);
+        store16(p, row->ids[i]);
+        store16(p + 2, e.size);
+        copy(p + 4, values + e.at, e.size);
+        p += 4 + e.size;
+    }
+}
+
+/*
+ * "Answers", run 1, 2, 3, 4, 11, 12, the input's elements, 13, 14. "Run": the input is the first bytes of the lent one,
+ * as many as registered; it is applied, then the effect, then the output's first bytes are written.
+ */
+adk_answer mdl_run_vcpu(uint8_t *store, size_t store_len, uint64_t flags, uint64_t guest, uint64_t vcpu,
+                        const uint8_t *input, size_t input_len, uint8_t *output, size_t output_len,
+                        const uint8_t *effect, size_t effect_len, uint64_t exit_reason)
+{
+    size_t at;
+    adk_answer a = target(store, store_len, flags & ~BITS_0_TO_2, false, guest, vcpu, &at);
+    if (a.r3 != 0)
+        return a;
+    uint8_t *values = store + at;
+    a = judge_lent(values, input_len, output_len);
+    if (a.r3 != 0)
+        return a;
+    struct verdict v = first_bad(input, registered_size(values, RUN_INPUT), INPUT, 0);
+    if (v.r3 != 0)
+        return answer(v.r3, v.offset);
+    const struct exit_row *row = exit_row(exit_reason);
+    if (row == NULL)
+        return answer(13, 0);
+    a = judge_effect(effect, effect_len);
+    if (a.r3 != 0)
+        return a;
+    apply(values, input);
+    apply(values, effect);
+    write_output(output, values, row);
+    return answer(0, exit_reason);
 }
 
 /* "The store": delete clears the live bit and the slot words only. */
@@ -461,7 +597,7 @@ adk_answer mdl_guest_clock(const uint8_t *store, size_t store_len, uint64_t gues
  */
 adk_found mdl_lookup(const uint8_t *buffer, size_t buffer_len, uint16_t id)
 {
-    if (buffer_len < 4 || buffer_len > 65536)
+    if (bad_length(buffer_len))
         return (adk_found){ 5, 0, 0, 0, 0 };
     uint32_t count = load32(buffer);
     size_t at = 4, found_at = 0, found_len = 0;

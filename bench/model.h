@@ -16,6 +16,9 @@ adk_answer mdl_get_state(const uint8_t *store, size_t store_len, uint64_t flags,
                          uint8_t *buffer, size_t buffer_len);
 adk_answer mdl_set_state(uint8_t *store, size_t store_len, uint64_t flags, uint64_t guest, uint64_t vcpu,
                          const uint8_t *buffer, size_t buffer_len);
+adk_answer mdl_run_vcpu(uint8_t *store, size_t store_len, uint64_t flags, uint64_t guest, uint64_t vcpu,
+                        const uint8_t *input, size_t input_len, uint8_t *output, size_t output_len,
+                        const uint8_t *effect, size_t effect_len, uint64_t exit_reason);
 adk_answer mdl_delete_guest(uint8_t *store, size_t store_len, uint64_t flags, uint64_t guest);
 adk_answer mdl_guest_clock(const uint8_t *store, size_t store_len, uint64_t guest, uint64_t timebase);
 adk_found mdl_lookup(const uint8_t *buffer, size_t buffer_len, uint16_t id);

@@ -66,6 +66,11 @@ extern "C" {
 /* Flag of adk_get_state and adk_set_state: state of the guest instead of one vCPU. */
 #define ADK_GUEST_WIDE ADK_BIT(0)
 
+/* Flags of adk_run_vcpu: interrupts that L0 is to generate in the vCPU. They are supported and change nothing here. */
+#define ADK_RUN_EXTERNAL_INTERRUPT ADK_BIT(0)
+#define ADK_RUN_PRIVILEGED_DOORBELL ADK_BIT(1)
+#define ADK_RUN_SYSTEM_RESET ADK_BIT(2)
+
 /* Flag of adk_delete_guest: delete all guests. */
 #define ADK_DELETE_ALL ADK_BIT(0)
 
@@ -84,20 +89,24 @@ extern "C" {
  * Bytes after the last counted element are ignored. The count is not trusted: every counted element must lie within
  * the buffer, and one that does not is ADK_INVALID_ELEMENT_SIZE. IDs may come in any order and more than once.
  *
- * Get and set state judge the elements in turn, up to the first bad one. The answer is then, in this order,
+ * Get state, set state and run judge the elements in turn, up to the first bad one. The answer is then, in this order,
  *
  *     ADK_INVALID_ELEMENT_SIZE     if the four bytes of ID and size do not fit into the buffer
  *     ADK_INVALID_ELEMENT_ID       if the ID is not listed below, has the other scope, or its access excludes the call
  *     ADK_INVALID_ELEMENT_SIZE     if the size is not the listed one, or the value runs past the end of the buffer
  *     ADK_INVALID_ELEMENT_VALUE    in set state, if the value breaks the rule of its element
  *
- * and r4 is the index of that element, from 0.
+ * and r4 is the index of that element, from 0. In the input of a run r4 is instead the byte offset of the element's
+ * first byte, counted from the buffer's; in the effect of a run the answer is ADK_BAD_EFFECT for each of these, with
+ * that offset.
  *
  * THE ELEMENTS
  *
- * Scope: guest-wide elements go with ADK_GUEST_WIDE, thread elements without it. Access: R can be read with get state,
- * W written with set state. Numbers in brackets are the bytes of each part. Where no rule is told every value is good.
- * Addresses are kept and never followed. The values of a new guest or vCPU are 0.
+ * Scope: guest-wide elements go with ADK_GUEST_WIDE, thread elements without it and in a run. Access: R can be read
+ * with get state, W written with set state. The input of a run takes what set state takes, but not 0x0C00 and 0x0C01.
+ * The effect of a run takes every thread element, whatever its access, but not 0x0C00 to 0x0C02. Numbers in brackets
+ * are the bytes of each part. Where no rule is told every value is good. Addresses are kept and never followed. The
+ * values of a new guest or vCPU are 0.
  *
  *     ID               Size  Access  Value
  *     0x0000           any   RW      NOP, in both scopes: its value bytes are neither read nor written
@@ -128,6 +137,9 @@ extern "C" {
  */
 #define ADK_BUFFER_MIN 4
 #define ADK_BUFFER_MAX 65536
+
+/* The least size of a run vCPU output buffer. */
+#define ADK_RUN_OUTPUT_MIN 124
 
 /* Logical PVRs: Power ISA 3.0 (POWER9) and 3.1 (POWER10). */
 #define ADK_PVR_ARCH_300 0x0F000005
@@ -215,6 +227,17 @@ enum {
     ADK_GSID_ASDR = 0xF003
 };
 
+/* Exit reasons of a run. adk_run_vcpu tells the output of each. */
+enum {
+    ADK_EXIT_UNSPECIFIED = 0x000,
+    ADK_EXIT_HDEC = 0x980,
+    ADK_EXIT_HCALL = 0xC00,
+    ADK_EXIT_HDSI = 0xE00,
+    ADK_EXIT_HISI = 0xE20,
+    ADK_EXIT_HEA = 0xE40,
+    ADK_EXIT_HV_FAC_UNAVAIL = 0xF80
+};
+
 /*
  * THE ANSWERS
  *
@@ -222,28 +245,28 @@ enum {
  *
  *     r3                          Given when
  *  0  ADK_OK                      success. r4: get capabilities, the offered bitmap; create guest, the guest's
- *                                 number; clock, the time
+ *                                 number; run, the exit reason; clock, the time
  *  1  ADK_BAD_STORE               the store is not well formed
  *  2  ADK_BAD_FLAG                a flag bit is set that the call does not support. r4: the lowest-numbered such bit
  *  3  ADK_BAD_PARAMETER           the guest is not live; create guest: the token is not ADK_TOKEN; set capabilities:
  *                                 a bit that is not offered. r4: set capabilities, 1
  *  4  ADK_BAD_VCPU                the vCPU id is above ADK_VCPU_MAX, or (not when creating) the vCPU is absent
- *  5  ADK_BAD_LENGTH              the buffer has under ADK_BUFFER_MIN or over ADK_BUFFER_MAX bytes
- *  6  ADK_INVALID_ELEMENT_ID      get and set state: an element's ID is not listed, of the wrong scope, or not
- *                                 permitted in the call. r4: its index, from 0. Lookup: no counted element has the
- *                                 ID. r4: the count
- *  7  ADK_INVALID_ELEMENT_SIZE    an element is cut off by the buffer's end; get and set state: or its size is not the
- *                                 listed one. r4: its index, from 0
+ *  5  ADK_BAD_LENGTH              the buffer has under ADK_BUFFER_MIN or over ADK_BUFFER_MAX bytes; never in a run
+ *  6  ADK_INVALID_ELEMENT_ID      get and set state, run input: an element's ID is not listed, of the wrong scope, or
+ *                                 not permitted in the call. r4: its index, from 0; in a run input its byte offset.
+ *                                 Lookup: no counted element has the ID. r4: the count
+ *  7  ADK_INVALID_ELEMENT_SIZE    an element is cut off by the buffer's end; get and set state, run input: or its size
+ *                                 is not the listed one. r4: its index, from 0; in a run input its byte offset
  *  8  ADK_INVALID_ELEMENT_VALUE   set state: an element's value breaks its rule. r4: its index, from 0
  *  9  ADK_NOT_ENOUGH_RESOURCES    no free guest number, or no free slot
  * 10  ADK_VCPU_EXISTS             the vCPU already exists
- * 11  ADK_NOT_REGISTERED          (not yet) a run buffer is not registered
- * 12  ADK_LENT_TOO_SHORT          (not yet) a lent run buffer is shorter than registered
- * 13  ADK_UNKNOWN_EXIT            (not yet) unknown exit reason
- * 14  ADK_BAD_EFFECT              (not yet) bad effect buffer
+ * 11  ADK_NOT_REGISTERED          run: a run buffer is not registered. r4: 0 input, 1 output
+ * 12  ADK_LENT_TOO_SHORT          run: a lent run buffer is shorter than registered. r4: 0 input, 1 output
+ * 13  ADK_UNKNOWN_EXIT            run: unknown exit reason
+ * 14  ADK_BAD_EFFECT              run: the effect has under ADK_BUFFER_MIN or over ADK_BUFFER_MAX bytes, or a bad
+ *                                 element. r4: 0 if its length is bad, else the byte offset of its first bad element
  *
- * Those marked (not yet) belong to run, which has no function here yet. 15 is a fault of the L1 cache, which C cannot
- * call.
+ * 15 is a fault of the L1 cache, which C cannot call.
  */
 enum {
     ADK_OK = 0,
@@ -341,6 +364,40 @@ adk_answer adk_get_state(const uint8_t *store, size_t store_len, uint64_t flags,
  */
 adk_answer adk_set_state(uint8_t *store, size_t store_len, uint64_t flags, uint64_t guest, uint64_t vcpu,
                          const uint8_t *buffer, size_t buffer_len);
+
+/*
+ * H_GUEST_RUN_VCPU. Runs a vCPU. No guest code is run: the caller tells what the processor did, by effect, a guest
+ * state buffer of what it wrote, and exit_reason, why it stopped. The elements of the input are set in order, then
+ * those of the effect, so of two with one ID the later counts. Then the output's first bytes are written: the count and
+ * the elements of the exit, in the order below, with the values that they have then. The rest of the output stays.
+ *
+ *     exit_reason                       bytes    elements
+ *     0xC00  ADK_EXIT_HCALL             124      0x1003 to 0x100C (GPR 3 to 12)
+ *     0xE00  ADK_EXIT_HDSI              36       0xF000 (HDAR), 0xF001 (HDSISR), 0xF003 (ASDR)
+ *     0xE20  ADK_EXIT_HISI              16       0xF003 (ASDR)
+ *     0xE40  ADK_EXIT_HEA               12       0xF002 (HEIR)
+ *     0xF80  ADK_EXIT_HV_FAC_UNAVAIL    16       0x102D (HFSCR)
+ *     0x000  ADK_EXIT_UNSPECIFIED       4        none
+ *     0x980  ADK_EXIT_HDEC              4        none
+ *
+ * input and output are the run buffers that L1 registers beforehand, by setting elements 0x0C00 and 0x0C01 of the vCPU.
+ * Their addresses are not followed; the caller lends the memory. A buffer counts as registered while the size kept in
+ * its element meets the element's rule; the size of a new vCPU, 0, does not. What is lent has at least the registered
+ * size, the output also where fewer bytes are written. It may be longer: the input ends at the registered size, and
+ * what is lent beyond is not looked at. Where there is nothing to set, input and effect hold a count of 0.
+ *
+ * Everything is judged before anything is set. The flags ADK_RUN_EXTERNAL_INTERRUPT, ADK_RUN_PRIVILEGED_DOORBELL and
+ * ADK_RUN_SYSTEM_RESET are supported.
+ *
+ * Answers: ADK_BAD_STORE, ADK_BAD_FLAG (a bit other than 0 to 2), ADK_BAD_PARAMETER (the guest is not live),
+ * ADK_BAD_VCPU, ADK_NOT_REGISTERED (r4 0: the input; then r4 1: the output), ADK_LENT_TOO_SHORT (r4 0: the input; then
+ * r4 1: the output), then of the input's first bad element ADK_INVALID_ELEMENT_ID or ADK_INVALID_ELEMENT_SIZE (r4: its
+ * byte offset), ADK_UNKNOWN_EXIT, ADK_BAD_EFFECT (r4: 0 if its length is bad, else the byte offset of its first bad
+ * element), ADK_OK (r4: exit_reason).
+ */
+adk_answer adk_run_vcpu(uint8_t *store, size_t store_len, uint64_t flags, uint64_t guest, uint64_t vcpu,
+                        const uint8_t *input, size_t input_len, uint8_t *output, size_t output_len,
+                        const uint8_t *effect, size_t effect_len, uint64_t exit_reason);
 
 /*
  * H_GUEST_DELETE. Deletes a live guest and its vCPUs, or, with ADK_DELETE_ALL, every guest and vCPU: guest is then

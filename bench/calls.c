@@ -1,0 +1,329 @@
+/*
+ * calls.c: makes the calls that a text file lists, on the library and on the model, and holds both to what it expects.
+ *
+ *     cc -std=c11 -O2 -I include bench/calls.c bench/model.c libadderknot.a -o calls
+ *     calls FILE...
+ *
+ * A line is a statement; one that begins with a space goes on with the line before, and # begins a comment.
+ *
+ *     case TEXT                             begins a case, with a fresh store
+ *     NAME numbers buffers = r3 r4 r5       a call: its name without adk_, then, each in the order of adderknot.h, its
+ *                                           numbers and the buffers lent. r4 and r5 are 0 where they are left out
+ *     NAME numbers buffers = r3 r4 r5 [..]  the same, where the call writes a buffer: what that buffer holds afterwards
+ *     store_is AT [..]                      the store holds these bytes from byte AT
+ *     slot_is SLOT AT [..]                  the values of a slot do
+ *     slot_put SLOT AT [..]                 puts bytes there
+ *
+ * A number is decimal or begins with 0x. Bytes stand in brackets, in hexadecimal; NxHH is N times the byte HH. Unless
+ * the text says otherwise a call must leave every buffer as it was, and a refused one the store too. A line 'passed
+ * calls TEXT' or 'failed calls TEXT' is printed for each case.
+ */
+#include "model.h"
+
+#include <ctype.h>
+#include <stdbool.h>
+#include <stdio.h>
+#include <stdlib.h>
+#include <string.h>
+
+#define COUNT(a) (sizeof(a) / sizeof((a)[0]))
+
+enum { NUMBERS = 4, PIECES = 3, BYTES_MAX = ADK_BUFFER_MAX + 1, TEXT_MAX = 4096 };
+
+/* Where the values of the slots begin in a store, and how many bytes each has. */
+enum { SLOT_VALUES = 458, SLOT_SIZE = 1820 };
+
+struct bytes {
+    size_t n;
+    uint8_t b[BYTES_MAX];
+};
+
+/* A statement as it was read. The numbers and bytes behind '=' are apart. */
+struct statement {
+    char name[32];
+    uint64_t number[NUMBERS], answer[3];
+    unsigned numbers, answers, pieces, afters;
+    struct bytes piece[PIECES], after;
+};
+
+/* ---- The two sides ---- */
+
+struct side {
+    const char *name;
+    uint8_t store[ADK_STORE_SIZE];
+    struct bytes piece[PIECES];
+};
+
+static struct side sides[] = { { .name = "library" }, { .name = "model" } };
+
+typedef adk_answer make_call(struct side *s, const uint64_t *n);
+
+/* One call on either side, from the same arguments. */
+#define MAKE(name, ...)                                                    \
+    static adk_answer library_##name(struct side *s, const uint64_t *n)    \
+    {                                                                      \
+        (void)n;                                                           \
+        return adk_##name(__VA_ARGS__);                                    \
+    }                                                                      \
+    static adk_answer model_##name(struct side *s, const uint64_t *n)      \
+    {                                                                      \
+        (void)n;                                                           \
+        return mdl_##name(__VA_ARGS__);                                    \
+    }
+
+#define STORE s->store, sizeof s->store
+#define PIECE(i) s->piece[i].b, s->piece[i].n
+
+MAKE(fresh_store, STORE)
+MAKE(get_capabilities, STORE, n[0])
+MAKE(set_capabilities, STORE, n[0], n[1])
+MAKE(create_guest, STORE, n[0], n[1])
+MAKE(create_vcpu, STORE, n[0], n[1], n[2])
+MAKE(get_state, STORE, n[0], n[1], n[2], PIECE(0))
+MAKE(set_state, STORE, n[0], n[1], n[2], PIECE(0))
+MAKE(run_vcpu, STORE, n[0], n[1], n[2], PIECE(0), PIECE(1), PIECE(2), n[3])
+MAKE(delete_guest, STORE, n[0], n[1])
+MAKE(guest_clock, STORE, n[0], n[1])
+
+enum { NONE = PIECES };
+
+#define ON(name) #name, { library_##name, model_##name }
+
+static const struct kind {
+    const char *name;
+    make_call *make[COUNT(sides)];
+    unsigned numbers, pieces, written; /* written: the piece that the call may write, or NONE */
+} KINDS[] = {
+    { ON(fresh_store), 0, 0, NONE },
+    { ON(get_capabilities), 1, 0, NONE },
+    { ON(set_capabilities), 2, 0, NONE },
+    { ON(create_guest), 2, 0, NONE },
+    { ON(create_vcpu), 3, 0, NONE },
+    { ON(get_state), 3, 1, 0 },
+    { ON(set_state), 3, 1, NONE },
+    { ON(run_vcpu), 4, 3, 1 },
+    { ON(delete_guest), 2, 0, NONE },
+    { ON(guest_clock), 2, 0, NONE },
+};
+
+/* ---- Statements carried out; each says whether it holds ---- */
+
+static bool same_bytes(const struct bytes *a, const struct bytes *b)
+{
+    return a->n == b->n && memcmp(a->b, b->b, a->n) == 0;
+}
+
+static bool call_on(struct side *s, make_call *make, const struct kind *k, const struct statement *t)
+{
+    static uint8_t before[ADK_STORE_SIZE];
+    memcpy(before, s->store, sizeof before);
+    memcpy(s->piece, t->piece, sizeof s->piece);
+    adk_answer a = make(s, t->number);
+    bool holds = a.r3 == t->answer[0] && a.r4 == t->answer[1] && a.r5 == t->answer[2];
+    if (!holds)
+        printf("  %s answers %llu %llu %llu\n", s->name, (unsigned long long)a.r3, (unsigned long long)a.r4,
+               (unsigned long long)a.r5);
+    if (a.r3 != 0 && memcmp(before, s->store, sizeof before) != 0) {
+        printf("  %s refuses and changes the store\n", s->name);
+        holds = false;
+    }
+    for (unsigned i = 0; i < k->pieces; i++)
+        if (!same_bytes(&s->piece[i], i == k->written && t->afters != 0 ? &t->after : &t->piece[i])) {
+            printf("  %s leaves other bytes in buffer %u\n", s->name, i);
+            holds = false;
+        }
+    return holds;
+}
+
+static bool call(const struct kind *k, const struct statement *t)
+{
+    bool holds = true;
+    if (t->numbers != k->numbers || t->pieces != k->pieces || t->answers == 0 || (t->afters != 0 && k->written == NONE))
+        return false;
+    for (size_t i = 0; i < COUNT(sides); i++)
+        holds = call_on(&sides[i], k->make[i], k, t) && holds;
+    bool same = memcmp(sides[0].store, sides[1].store, ADK_STORE_SIZE) == 0;
+    if (!same)
+        printf("  library and model leave different stores\n");
+    return holds && same;
+}
+
+/* The bytes from a place of the store are looked at or, if put, written. */
+static bool store_bytes(const struct statement *t, uint64_t at, bool put)
+{
+    const struct bytes *bytes = &t->piece[0];
+    bool holds = t->pieces == 1 && t->answers == 0 && at <= ADK_STORE_SIZE && bytes->n <= ADK_STORE_SIZE - at;
+    for (size_t i = 0; holds && i < COUNT(sides); i++) {
+        if (put)
+            memcpy(sides[i].store + at, bytes->b, bytes->n);
+        holds = memcmp(sides[i].store + at, bytes->b, bytes->n) == 0;
+    }
+    return holds;
+}
+
+static bool carry_out(const struct statement *t)
+{
+    for (size_t i = 0; i < COUNT(KINDS); i++)
+        if (strcmp(t->name, KINDS[i].name) == 0)
+            return call(&KINDS[i], t);
+    if (strcmp(t->name, "store_is") == 0 && t->numbers == 1)
+        return store_bytes(t, t->number[0], false);
+    bool put = strcmp(t->name, "slot_put") == 0;
+    if ((put || strcmp(t->name, "slot_is") == 0) && t->numbers == 2 && t->number[0] < ADK_SLOTS)
+        return store_bytes(t, SLOT_VALUES + SLOT_SIZE * t->number[0] + t->number[1], put);
+    return false;
+}
+
+/* ---- Reading ---- */
+
+/* Each reader takes the text where its part begins and gives back where it ends, or NULL if it cannot be read. */
+
+static const char *skip_space(const char *p)
+{
+    while (p != NULL && isspace((unsigned char)*p))
+        p++;
+    return p;
+}
+
+static const char *read_number(const char *p, uint64_t *numbers, unsigned *n, unsigned room)
+{
+    char *end;
+    if (*n == room || !isdigit((unsigned char)*p))
+        return NULL;
+    numbers[(*n)++] = strtoull(p, &end, 0);
+    return end;
+}
+
+/* A byte, or N times one. */
+static const char *read_byte(const char *p, struct bytes *to)
+{
+    unsigned long times = 1;
+    unsigned byte;
+    size_t digits = strspn(p, "0123456789");
+    if (digits > 0 && p[digits] == 'x') {
+        times = strtoul(p, NULL, 10);
+        p += digits + 1;
+    }
+    if (!isxdigit((unsigned char)p[0]) || !isxdigit((unsigned char)p[1]) || times > BYTES_MAX - to->n)
+        return NULL;
+    sscanf(p, "%2x", &byte);
+    memset(to->b + to->n, (int)byte, times);
+    to->n += times;
+    return p + 2;
+}
+
+/* The bytes between brackets. */
+static const char *read_bytes(const char *p, struct bytes *bytes, unsigned *n, unsigned room)
+{
+    if (*n == room)
+        return NULL;
+    struct bytes *to = &bytes[(*n)++];
+    for (p = skip_space(p + 1); p != NULL && *p != ']'; p = skip_space(p))
+        p = read_byte(p, to);
+    return p == NULL ? NULL : p + 1;
+}
+
+static bool read_statement(const char *p, struct statement *t)
+{
+    size_t n = strcspn(p, " ");
+    bool expected = false;
+    memset(t, 0, sizeof *t);
+    if (n >= sizeof t->name)
+        return false;
+    memcpy(t->name, p, n);
+    for (p = skip_space(p + n); p != NULL && *p != '\0'; p = skip_space(p))
+        if (*p == '=' && !expected) {
+            expected = true;
+            p++;
+        } else if (*p == '[') {
+            p = expected ? read_bytes(p, &t->after, &t->afters, 1) : read_bytes(p, t->piece, &t->pieces, PIECES);
+        } else {
+            p = expected ? read_number(p, t->answer, &t->answers, COUNT(t->answer))
+                         : read_number(p, t->number, &t->numbers, NUMBERS);
+        }
+    return p != NULL;
+}
+
+/* ---- Cases ---- */
+
+struct play {
+    char title[TEXT_MAX]; /* of the case; empty between cases */
+    bool failed;          /* the case has: the rest of it is skipped */
+    unsigned passes, failures;
+};
+
+static void end_case(struct play *play)
+{
+    if (play->title[0] == '\0' && !play->failed)
+        return;
+    printf("%s calls %s\n", play->failed ? "failed" : "passed", play->title);
+    *(play->failed ? &play->failures : &play->passes) += 1;
+    play->title[0] = '\0';
+    play->failed = false;
+}
+
+static void begin_case(struct play *play, const char *title)
+{
+    end_case(play);
+    snprintf(play->title, sizeof play->title, "%s", title);
+    for (size_t i = 0; i < COUNT(sides); i++)
+        memset(sides[i].store, 0, ADK_STORE_SIZE);
+}
+
+/* A whole statement, its lines joined. Outside a case none holds. */
+static void take_statement(struct play *play, const char *text, const char *file, unsigned line)
+{
+    static struct statement t;
+    if (strncmp(text, "case ", 5) == 0) {
+        begin_case(play, text + 5);
+    } else if (text[0] != '\0' && !play->failed) {
+        play->failed = play->title[0] == '\0' || !read_statement(text, &t) || !carry_out(&t);
+        if (play->failed)
+            printf("  %s:%u does not hold: %s\n", file, line, text);
+    }
+}
+
+/* Reads a line without its comment and the space behind it; false at the end. */
+static bool read_line(FILE *f, char *line)
+{
+    if (fgets(line, TEXT_MAX, f) == NULL)
+        return false;
+    line[strcspn(line, "#\n")] = '\0';
+    for (size_t n = strlen(line); n > 0 && line[n - 1] == ' '; n--)
+        line[n - 1] = '\0';
+    return true;
+}
+
+static bool play_file(struct play *play, const char *file)
+{
+    static char line[TEXT_MAX], text[TEXT_MAX];
+    unsigned number = 0, first = 0;
+    FILE *f = fopen(file, "r");
+    if (f == NULL)
+        return false;
+    text[0] = '\0';
+    while (read_line(f, line)) {
+        number++;
+        if (line[0] != ' ') {
+            take_statement(play, text, file, first);
+            text[0] = '\0';
+            first = number;
+        }
+        strncat(text, line, sizeof text - 1 - strlen(text));
+    }
+    take_statement(play, text, file, first);
+    end_case(play);
+    fclose(f);
+    return true;
+}
+
+int main(int argc, char **argv)
+{
+    static struct play play;
+    for (int i = 1; i < argc; i++)
+        if (!play_file(&play, argv[i])) {
+            fprintf(stderr, "calls: cannot read %s\n", argv[i]);
+            return 2;
+        }
+    return play.failures == 0 && play.passes > 0 ? 0 : 1;
+}
