@@ -8,14 +8,14 @@ use native.Mathlib.Numerals.{add-one}
 use native.Mathlib.Omega.{arith}
 use lib.Dec.{eqb, ltb, leb}
 use lib.ListN.{length, getD, take, drop}
-use lib.Seq.{drop-cons}
+use lib.Seq.{drop-cons, take-length}
 use borrow.Author.Tests.{eq-eqb, ne-eqb, lt-ltb, le-ltb, leb-true, ltb-true, ltb-false}
 use Rattle.octets.specs.Bytes.{put, digits}
 use Rattle.gsb.specs.Message.{elementsBytes, message}
-use Rattle.gsb.proofs.Messages.{message-put}
-use Rattle.exits.specs.Exits.{exits, isAmong, known, rowOf, returned, valued, outputOf}
+use Rattle.gsb.proofs.Messages.{length-message, message-put}
+use Rattle.exits.specs.Exits.{exits, isAmong, known, rowOf, returned, weigh, rowBytes, valued, outputOf}
 use Rattle.exits.specs.Private.{exitAt, codes, indexIn}
-use Rattle.exits.proofs.Written.{length-valued}
+use Rattle.exits.proofs.Written.{both, rowFits, rowsFit, exits-fit, Fits, none-fits, fits-row, weighed, length-valued}
 
 -- the constant
 abbrev pub rows : List (List ℕ)
@@ -105,3 +105,21 @@ search-end exit i a b e =
     let q : i ≡ 7 = omega arith in
     let z : indexIn (drop i exits) exit ≡ 0 = ap (λ (n : ℕ). indexIn (drop n exits) exit) q in
     omega (arith, e, z)
+
+-- ---- how long an output is
+all-among : (xs : List (ℕ × List ℕ)) (exit : ℕ) → rowsFit xs ≡ true → Fits (rowOf xs exit)
+unfolding rowOf
+all-among [] exit e = none-fits
+all-among (x ∷ xs) exit e = go (eqb (x .0) exit) (both (rowFits (x .1)) (rowsFit xs) e) (all-among xs exit)
+  where
+    go : (t : Bool) → (rowFits (x .1) ≡ true) × (rowsFit xs ≡ true) → (rowsFit xs ≡ true → Fits (rowOf xs exit)) → Fits (cond t (x .1) (rowOf xs exit))
+    go true p ih = fits-row (x .1) (p .0)
+    go false p ih = ih (p .1)
+
+pub length-output : (base : ℕ) (s : List ℕ) (exit : ℕ) → base + 1820 ≤ length s → length (outputOf base s exit) ≡ rowBytes (returned exit)
+unfolding outputOf
+length-output base s exit room =
+    let ids = returned exit in
+    let w = weighed base s ids (length ids) room (all-among exits exit exits-fit .all) (omega arith) in
+    let e : take (length ids) ids ≡ ids = take-length ids in
+    length-message (valued base s ids) ∙ ap (λ (n : ℕ). 4 + n) (ap (λ (x : List ℕ). length (elementsBytes (valued base s x))) (sym e) ∙ w ∙ ap weigh e)

@@ -16,25 +16,21 @@ use Rattle.elements.specs.declared.Element.{Element}
 use Rattle.elements.specs.Table.{table, below, position, numberOf, numbered, threadElement}
 use Rattle.gsb.specs.Message.{elementBytes, elementsBytes}
 use Rattle.gsb.proofs.Messages.{length-more, elements-none, elements-more}
-use Rattle.exits.specs.Exits.{exits, elementOf, valued}
+use Rattle.exits.specs.Exits.{exits, elementOf, weigh, rowBytes, valued}
 use Rattle.exits.specs.Private.{exitAt, codes}
 
 -- ---- what an element and a row must be
-pub weigh : List ℕ → ℕ
-weigh [] = 0
-weigh (id ∷ ids) = 4 + elementOf id .size + weigh ids
-
 abbrev idFits : ℕ → Bool
 idFits id = ltb (numberOf id) 170 && (leb (elementOf id .size) 16 && leb (elementOf id .position + elementOf id .size) 1820)
 
-abbrev allFit : List ℕ → Bool
+abbrev pub allFit : List ℕ → Bool
 allFit [] = true
 allFit (id ∷ ids) = idFits id && allFit ids
 
-abbrev rowFits : List ℕ → Bool
+abbrev pub rowFits : List ℕ → Bool
 rowFits ids = allFit ids && (leb (weigh ids) 120 && leb (length ids) 10)
 
-abbrev rowsFit : List (ℕ × List ℕ) → Bool
+abbrev pub rowsFit : List (ℕ × List ℕ) → Bool
 rowsFit [] = true
 rowsFit (x ∷ xs) = rowFits (x .1) && rowsFit xs
 
@@ -43,14 +39,24 @@ pub exits-fit : rowsFit exits ≡ true
 unfolding exits weigh threadElement numbered numberOf position below table
 exits-fit = refl
 
-both : (a b : Bool) → (a && b) ≡ true → (a ≡ true) × (b ≡ true)
+pub both : (a b : Bool) → (a && b) ≡ true → (a ≡ true) × (b ≡ true)
 both true b e = (refl, e)
 both false b e = let z : _≡_ {A = ℕ} 0 1 = cc in absurd (omega arith)
 
-record Fits (ids : List ℕ) : Type 0 where
-  all : allFit ids ≡ true
-  light : weigh ids ≤ 120
-  few : length ids ≤ 10
+pub record Fits (ids : List ℕ) : Type 0 where
+  pub all : allFit ids ≡ true
+  pub light : weigh ids ≤ 120
+  pub few : length ids ≤ 10
+
+pub none-fits : Fits []
+unfolding weigh
+none-fits = record { all = refl; light = omega arith; few = omega arith }
+
+pub fits-row : (ids : List ℕ) → rowFits ids ≡ true → Fits ids
+fits-row ids e =
+    let p = both (allFit ids) (leb (weigh ids) 120 && leb (length ids) 10) e in
+    let q = both (leb (weigh ids) 120) (leb (length ids) 10) (p .1) in
+    record { all = p .0; light = leb-true _ _ (q .0); few = leb-true _ _ (q .1) }
 
 row-fits : (xs : List (ℕ × List ℕ)) (i : ℕ) → rowsFit xs ≡ true → i < length xs → rowFits (getD xs i (0, []) .1) ≡ true
 row-fits [] i e h = absurd (not-suc-le-zero h)
@@ -62,11 +68,7 @@ unfolding exits
 long = refl
 
 fits-at : (i : ℕ) → i < 7 → Fits (exitAt i .1)
-fits-at i h =
-    let ids = exitAt i .1 in
-    let p = both (allFit ids) (leb (weigh ids) 120 && leb (length ids) 10) (row-fits exits i exits-fit (subst (λ (n : ℕ). i < n) (sym long) h)) in
-    let q = both (leb (weigh ids) 120) (leb (length ids) 10) (p .1) in
-    record { all = p .0; light = leb-true _ _ (q .0); few = leb-true _ _ (q .1) }
+fits-at i h = fits-row (exitAt i .1) (row-fits exits i exits-fit (subst (λ (n : ℕ). i < n) (sym long) h))
 
 pub record Fit (id : ℕ) : Type 0 where
   pub listed : numberOf id < 170
@@ -119,7 +121,7 @@ length-valued base s [] = refl
 length-valued base s (id ∷ ids) = ap suc (length-valued base s ids)
 
 -- how far the elements of a prefix reach
-weighed : (base : ℕ) (s ids : List ℕ) (j : ℕ) → base + 1820 ≤ length s → allFit ids ≡ true → j ≤ length ids → length (elementsBytes (valued base s (take j ids))) ≡ weigh (take j ids)
+pub weighed : (base : ℕ) (s ids : List ℕ) (j : ℕ) → base + 1820 ≤ length s → allFit ids ≡ true → j ≤ length ids → length (elementsBytes (valued base s (take j ids))) ≡ weigh (take j ids)
 unfolding weigh elementsBytes valued
 weighed base s ids zero room a h = refl
 weighed base s ids (suc j) room a h =
@@ -130,6 +132,15 @@ weighed base s ids (suc j) room a h =
     let w = weighed base s ids j room a (omega arith) in
     ap (λ (x : List ℕ). length (elementsBytes (valued base s x))) e ∙ ap (λ (x : List (ℕ × List ℕ)). length (elementsBytes x)) (valued-next base s ids j l)
     ∙ length-more (valued base s (take j ids)) (getD ids j 0) (valueIn base s (getD ids j 0)) ∙ omega (arith, w, n, weigh-next ids j l) ∙ ap weigh (sym e)
+
+-- THEOREM `exit-bytes`: the bytes of each row are those of 01's table
+abbrev bytesIn : List (ℕ × List ℕ) → List ℕ
+bytesIn [] = []
+bytesIn (x ∷ xs) = rowBytes (x .1) ∷ bytesIn xs
+
+pub exit-bytes : bytesIn exits ≡ 124 ∷ 36 ∷ 16 ∷ 12 ∷ 16 ∷ 4 ∷ 4 ∷ []
+unfolding exits weigh threadElement numbered numberOf position below table
+exit-bytes = refl
 
 -- ---- the loop
 module _ (i : ℕ) (h : i < 7) (row : List ℕ) (r : row ≡ codes (exitAt i)) where

@@ -36,10 +36,19 @@ rowOf (x ∷ xs) exit = cond (eqb (x .0) exit) (x .1) (rowOf xs exit)
 abbrev pub returned : ℕ → List ℕ
 returned exit = rowOf exits exit
 
--- thread elements with the values that they have in the slot whose values start at base of the store s
+-- the thread element that an ID names
 abbrev pub elementOf : ℕ → Element
 elementOf id = threadElement (numberOf id)
 
+-- the table's third column: four bytes of count, and four before each value
+unfoldable pub weigh : List ℕ → ℕ
+weigh [] = 0
+weigh (id ∷ ids) = 4 + elementOf id .size + weigh ids
+
+abbrev pub rowBytes : List ℕ → ℕ
+rowBytes ids = 4 + weigh ids
+
+-- thread elements with the values that they have in the slot whose values start at base of the store s
 unfoldable pub valued : ℕ → List ℕ → List ℕ → List (ℕ × List ℕ)
 valued base s [] = []
 valued base s (id ∷ ids) = (id, bytesAt s (base + elementOf id .position) (elementOf id .size)) ∷ valued base s ids

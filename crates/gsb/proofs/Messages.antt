@@ -65,3 +65,7 @@ unfolding message
 message-put b x y n es e h l =
     let q : 4 ≡ 0 + length (digits 4 n) = sym (length-digits 4 n) ∙ omega arith in
     h ∙ ap₂ (λ (z : List ℕ) (k : ℕ). put z k (elementsBytes es)) e q ∙ sym (put-append b 0 (digits 4 n) (elementsBytes es)) ∙ ap (λ (k : ℕ). put b 0 (digits 4 k ++ elementsBytes es)) l
+
+pub length-message : (es : List (ℕ × List ℕ)) → length (message es) ≡ 4 + length (elementsBytes es)
+unfolding message
+length-message es = length-append (digits 4 (length es)) (elementsBytes es) ∙ ap (λ (n : ℕ). n + length (elementsBytes es)) (length-digits 4 (length es))

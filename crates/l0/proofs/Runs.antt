@@ -190,7 +190,7 @@ pub record Spotted (l : Layout) (s : List ℕ) (base n inputLength outputLength 
   pub lent : n ≤ inputLength
   pub out : 124 ≤ outputLength
 
-spotted : (l : Layout) → Sound l → (s : List ℕ) (flags guest vcpu need inputLength outputLength : ℕ) → Passed (spotTests l s flags guest vcpu need inputLength outputLength)
+pub spotted : (l : Layout) → Sound l → (s : List ℕ) (flags guest vcpu need inputLength outputLength : ℕ) → Passed (spotTests l s flags guest vcpu need inputLength outputLength)
     → Spotted l s (baseOf l s false guest vcpu) (inputSize s (baseOf l s false guest vcpu)) inputLength outputLength
 unfolding baseOf
 spotted l so s flags guest vcpu need inputLength outputLength p =

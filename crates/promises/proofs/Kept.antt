@@ -1,6 +1,6 @@
 -- THEOREMS of the written rules: `refused-unchanged`, `well-formed-kept`, and that create takes the lowest free id or slot and finds
 -- again what delete freed. Assumes nothing.
-use mathlib.Core.Path.{_≡_, refl, sym, ap, _∙_, subst}
+use mathlib.Core.Path.{_≡_, refl, sym, ap, ap₂, _∙_, subst}
 use mathlib.Core.Logic.{_≢_}
 use mathlib.Core.Bool.{Bool, true, false, not, _&&_, cond}
 use mathlib.Core.List.{List, [], _∷_}
@@ -13,12 +13,12 @@ use Rattle.answer.specs.declared.Fault.the-variants.{None}
 use Rattle.answer.specs.Refusals.{firstOf}
 use Rattle.store.specs.declared.Layout.{Layout}
 use Rattle.store.specs.Layout.{Sound, small, guestAt, slotAt}
-use Rattle.store.specs.Header.{header, outside, offered, live, holds, slotOf, freeSlot, isDead, freeGuest, word, slotHolding}
+use Rattle.store.specs.Header.{header, outside, offered, live, holds, slotOf, freeSlot, isDead, freeGuest, word, slotHolding, headGood, wordsGood}
 use Rattle.store.specs.Store.{wellFormed, fresh, withoutGuest, withoutGuests}
 use Rattle.store.proofs.Search.{no-bool, first-bounds, Found, first-found}
 use Rattle.store.proofs.Kept.{guest-kept, vcpu-kept, delete-kept, delete-all-kept, caps-kept}
 use Rattle.store.proofs.Small.{sound-small, fresh-good}
-use Rattle.store.proofs.Frame.{formed-values}
+use Rattle.store.proofs.Frame.{header-values}
 use Rattle.elements.specs.declared.Source.{Source}
 use Rattle.elements.specs.declared.Source.the-variants.{Fixed, Stored}
 use Rattle.elements.specs.declared.Kind.{Kind}
@@ -26,6 +26,7 @@ use Rattle.elements.specs.declared.Kind.the-variants.{Unlisted, Nop, Listed}
 use Rattle.elements.specs.Table.{kindOf}
 use Rattle.gsb.specs.Walk.{countOf, idAt, offsetAt}
 use Rattle.transfer.specs.Transfer.{valueAt, putFrom, putAs, applied}
+use Rattle.transfer.proofs.Moving.{length-applied}
 use Rattle.l0.specs.Refusals.{Outcome, accept, refuse, decide, hasBit0}
 use Rattle.l0.specs.Calls.{freshStore, getCapabilities, setCapabilities, createGuest, createVcpu, deleteGuest, guestClock, Call, GetCapabilities, SetCapabilities, CreateGuest, CreateVcpu, GetState, SetState, RunVcpu, DeleteGuest, GuestClock, outcome, after}
 use Rattle.l0.specs.State.{baseOf, getState, setState}
@@ -83,21 +84,27 @@ unfolding freshStore
 fresh-unchanged l s = decided (Unchanged s []) s [] _ _ (kept s []) (λ p. done s [] _ refl)
 
 -- ---- a well-formed store stays well formed
--- values stored behind the header leave it as it was
-stored-kept : (l : Layout) → Sound l → (kind : Kind) (base : ℕ) (v s : List ℕ) → l .«guests_at» ≤ base → wellFormed l (putAs kind base v s) ≡ wellFormed l s
+-- values stored behind the header leave it
+stored-header : (l : Layout) → Sound l → (kind : Kind) (base : ℕ) (v s : List ℕ) → l .«guests_at» ≤ base → header l (putAs kind base v s) ≡ header l s
 unfolding putAs putFrom
-stored-kept l so Unlisted base v s k = refl
-stored-kept l so Nop base v s k = refl
-stored-kept l so (Listed x) base v s k = go (x .source)
+stored-header l so Unlisted base v s k = refl
+stored-header l so Nop base v s k = refl
+stored-header l so (Listed x) base v s k = go (x .source)
   where
-    go : (y : Source) → wellFormed l (putFrom y base v s) ≡ wellFormed l s
+    go : (y : Source) → header l (putFrom y base v s) ≡ header l s
     go (Fixed n) = refl
-    go (Stored p) = formed-values l so s (base + p) v (omega arith)
+    go (Stored p) = header-values l so s (base + p) v (omega arith)
+
+pub applied-header : (l : Layout) → Sound l → (base : ℕ) (b : List ℕ) (n : ℕ) (s : List ℕ) → l .«guests_at» ≤ base → header l (applied base b n s) ≡ header l s
+unfolding applied
+applied-header l so base b zero s k = refl
+applied-header l so base b (suc n) s k =
+    stored-header l so (kindOf (idAt b (offsetAt b n))) base (valueAt b (offsetAt b n)) (applied base b n s) k ∙ applied-header l so base b n s k
 
 pub applied-kept : (l : Layout) → Sound l → (base : ℕ) (b : List ℕ) (n : ℕ) (s : List ℕ) → l .«guests_at» ≤ base → wellFormed l (applied base b n s) ≡ wellFormed l s
-unfolding applied
-applied-kept l so base b zero s k = refl
-applied-kept l so base b (suc n) s k = stored-kept l so (kindOf (idAt b (offsetAt b n))) base (valueAt b (offsetAt b n)) (applied base b n s) k ∙ applied-kept l so base b n s k
+unfolding wellFormed
+applied-kept l so base b n s k =
+    ap₂ (λ (n : ℕ) (h : List ℕ). eqb n (l .size) && (headGood l h && wordsGood l h)) (length-applied base b s n) (applied-header l so base b n s k)
 
 pub base-values : (l : Layout) → Sound l → (s : List ℕ) (wide : Bool) (guest vcpu : ℕ) → l .«guests_at» ≤ baseOf l s wide guest vcpu
 unfolding baseOf

@@ -54,10 +54,10 @@ no-guest z = let y : _≡_ {A = ℕ} 0 1 = cc in omega arith
 pub no-vcpu : Vcpu ≡ None → ⊥
 no-vcpu z = let y : _≡_ {A = ℕ} 0 1 = cc in omega arith
 
-no-exists : Exists ≡ None → ⊥
+pub no-exists : Exists ≡ None → ⊥
 no-exists z = let y : _≡_ {A = ℕ} 0 1 = cc in omega arith
 
-no-room : Room ≡ None → ⊥
+pub no-room : Room ≡ None → ⊥
 no-room z = let y : _≡_ {A = ℕ} 0 1 = cc in omega arith
 
 module _ (l : Layout) (s : List ℕ) where

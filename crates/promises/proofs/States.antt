@@ -43,7 +43,7 @@ use Rattle.l0.proofs.Judging.{Passed}
 use Rattle.promises.proofs.Kept.{decided}
 
 -- tests that failed may be left out
-skip : {B : Type 0} (turn : Fault → B) (xs ys : List (Bool × Fault)) (o : B) → Passed xs → firstOf turn (xs ++ ys) o ≡ firstOf turn ys o
+pub skip : {B : Type 0} (turn : Fault → B) (xs ys : List (Bool × Fault)) (o : B) → Passed xs → firstOf turn (xs ++ ys) o ≡ firstOf turn ys o
 skip turn [] ys o p = refl
 skip turn (x ∷ xs) ys o p = ap (λ (t : Bool). cond t (turn (x .1)) (firstOf turn (xs ++ ys) o)) (p .0) ∙ skip turn xs ys o (p .1)
 

@@ -116,7 +116,7 @@ module _ (l : Layout) (so : Sound l) (h : List ℕ) where
   unfolding putCapabilities
   caps-bits c a n k = bits-beside h 0 (digits 8 c) a n (left (omega (arith, length-digits 8 c)))
 
-  caps-word : (c a : ℕ) → word l (putCapabilities h c) a ≡ word l h a
+  pub caps-word : (c a : ℕ) → word l (putCapabilities h c) a ≡ word l h a
   unfolding word
   caps-word c a = caps-bits c (wordAt l a) (l .width) (omega (arith, so .head))
 

@@ -114,6 +114,20 @@ tally-more p q (suc n) j l a b h = go (ℕ-discrete j n) (tally-more p q n j)
         let w : p n ≡ q n = h n (omega arith) (λ e. m (sym e)) in
         rw w (omega arith)
 
+-- where each number has r exactly if it has p or q, and none has both
+pub tally-sum : (p q r : ℕ → Bool) (n : ℕ) → ((k : ℕ) → k < n → cond (p k) 1 0 + cond (q k) 1 0 ≡ cond (r k) 1 0) → tally p n + tally q n ≡ tally r n
+unfolding tally
+tally-sum p q r zero h = refl
+tally-sum p q r (suc n) h =
+    let x : tally p n + tally q n ≡ tally r n = tally-sum p q r n (λ k l. h k (omega arith)) in
+    let y : cond (p n) 1 0 + cond (q n) 1 0 ≡ cond (r n) 1 0 = h n (omega arith) in
+    omega arith
+
+pub tally-all : (n : ℕ) → tally (λ k. true) n ≡ n
+unfolding tally
+tally-all zero = refl
+tally-all (suc n) = let x : tally (λ k. true) n ≡ n = tally-all n in omega arith
+
 -- the first one is no later than any that has p
 pub first-le : (p : ℕ → Bool) (n i j : ℕ) → p j ≡ true → i ≤ j → j < i + n → first p n i ≤ j
 first-le p n i j h a b = go (decLt j (first p n i))

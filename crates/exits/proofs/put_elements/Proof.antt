@@ -1,7 +1,7 @@
 -- The loop has written the elements before j; the table's computed test says that they fit.
-use Rattle.exits.proofs.Written.{weigh, row-few, row-start, at-start, id-listed, id-small, id-inside, id-room, at-turn, row-turn, row-end}
+use Rattle.exits.proofs.Written.{row-few, row-start, at-start, id-listed, id-small, id-inside, id-room, at-turn, row-turn, row-end}
 use Rattle.exits.specs.Private.{exitAt}
-use Rattle.exits.specs.Exits.{valued}
+use Rattle.exits.specs.Exits.{weigh, valued}
 use Rattle.gsb.specs.Message.{elementsBytes}
 use Rattle.octets.specs.Bytes.{put}
 use lib.ListN.{take}
