@@ -5,3 +5,4 @@ pub mod ReadBack
 pub mod Runs
 pub mod Used
 pub mod Edges
+pub mod Apart

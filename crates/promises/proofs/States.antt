@@ -178,7 +178,7 @@ module _ (l : Layout) (s : List ℕ) (flags guest vcpu : ℕ) (b : List ℕ) whe
       (λ p. record { kept = filled-frame (baseOf l s (hasBit0 flags) guest vcpu) s b (all-ready so (getUse (hasBit0 flags)) get-room p) (countOf b) j (omega arith) out }) .kept
 
 -- ---- setting one guest or vCPU leaves the others' values
-slots-apart : (l : Layout) (i j : ℕ) → i ≢ j → Clear (slotAt l i) slotBytes (slotAt l j) slotBytes
+pub slots-apart : (l : Layout) (i j : ℕ) → i ≢ j → Clear (slotAt l i) slotBytes (slotAt l j) slotBytes
 slots-apart l i j n = go (decLt i j)
   where
     go : Dec (i < j) → Clear (slotAt l i) slotBytes (slotAt l j) slotBytes
