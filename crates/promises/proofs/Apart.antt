@@ -11,7 +11,7 @@ use native.Mathlib.Decide.{decLt}
 use lib.Dec.{eqb, leb, ltb}
 use lib.ListN.{length, getD}
 use lib.Seq.{ext-getD}
-use borrow.Author.Tests.{eq-eqb, ne-eqb, lt-ltb, eqb-true, ltb-true, ltb-false, not-true, not-false}
+use borrow.Author.Tests.{eq-eqb, ne-eqb, lt-ltb, leb-true, eqb-true, ltb-true, ltb-false, not-true, not-false}
 use Rattle.octets.specs.Bytes.{bytesAt, put, be, zeros}
 use Rattle.octets.specs.Bits.{putBits}
 use Rattle.octets.proofs.Bytes.{Clear, left, right, clear-sym, clear-part, length-put, length-bytesAt, length-zeros, whole, part-append, getD-bytesAt, put-inside, put-comm, put-same, read-back, read-other}
@@ -27,11 +27,12 @@ use Rattle.elements.specs.declared.Entry.{Entry}
 use Rattle.elements.specs.declared.Kind.{Kind}
 use Rattle.elements.specs.declared.Kind.the-variants.{Unlisted, Nop, Listed}
 use Rattle.elements.specs.declared.Context.{Context}
-use Rattle.elements.specs.Table.{table, below, position, kindOf}
+use Rattle.elements.specs.Table.{table, below, position, kindOf, numberOf}
 use Rattle.elements.specs.Rules.{permits, sizeFits}
 use Rattle.elements.proofs.Table.{bytesOf, position-end, source-stored}
 use Rattle.elements.proofs.Rules.{size-listed, permits-scope, scopeFor}
 use Rattle.gsb.specs.declared.Walked.the-variants.{Done}
+use Rattle.gsb.specs.Message.{message}
 use Rattle.gsb.specs.Walk.{countOf, idAt, sizeAt, offsetAt, firstBad}
 use Rattle.gsb.proofs.Judged.{GoodElement, good-element}
 use Rattle.gsb.proofs.First.{accepted-exactly}
@@ -48,6 +49,7 @@ use Rattle.store.proofs.Frame.{header-full, header-values, header-word, header-
 use Rattle.store.proofs.Kept.{words-are, deleted-else, deleted-other}
 use Rattle.transfer.specs.Transfer.{valueAt, putFrom, putAs, applied, readFrom, fillAs, filled}
 use Rattle.exits.specs.Exits.{exits, rowOf, returned, elementOf, valued, outputOf}
+use Rattle.exits.proofs.Written.{allFit, rowFits, rowsFit, exits-fit, Fits, fits-row}
 use Rattle.l0.specs.Refusals.{Outcome, accept, refuse, decide, malformed, unsupported, notLive, hasBit0}
 use Rattle.l0.specs.State.{baseOf, getState, setState}
 use Rattle.l0.specs.Run.{inputOf, ranStore, ran, runVcpu}
@@ -176,3 +178,198 @@ module _ (k : Context) (base : ℕ) (b : List ℕ) (d : firstBad k b ≡ Done) (
   filled-write (suc n) h s =
       element-read n (omega arith) s (filled base (put s q w) b n) (kindOf (idAt b (offsetAt b n))) refl
       ∙ ap (fillAs (kindOf (idAt b (offsetAt b n))) base s (offsetAt b n)) (filled-write n (omega arith) s)
+
+-- ---- the output of a run
+-- the elements of every exit lie among a slot's values
+rows-fit : (xs : List (ℕ × List ℕ)) (exit : ℕ) → rowsFit xs ≡ true → allFit (rowOf xs exit) ≡ true
+unfolding rowOf
+rows-fit [] exit e = refl
+rows-fit (x ∷ xs) exit e = go (eqb (x .0) exit) (both (rowFits (x .1)) (rowsFit xs) e) (rows-fit xs exit)
+  where
+    go : (t : Bool) → (rowFits (x .1) ≡ true) × (rowsFit xs ≡ true) → (rowsFit xs ≡ true → allFit (rowOf xs exit) ≡ true) → allFit (cond t (x .1) (rowOf xs exit)) ≡ true
+    go true p ih = fits-row (x .1) (p .0) .all
+    go false p ih = ih (p .1)
+
+module _ (base q : ℕ) (w : List ℕ) (c : Clear base slotBytes q (length w)) where
+  valued-write : (s ids : List ℕ) → allFit ids ≡ true → valued base (put s q w) ids ≡ valued base s ids
+  unfolding valued
+  valued-write s [] e = refl
+  valued-write s (id ∷ ids) e =
+      let p = both _ (allFit ids) e in
+      let f = both (leb (elementOf id .size) 16) _ (both (ltb (numberOf id) 170) _ (p .0) .1) in
+      let z : elementOf id .position + elementOf id .size ≤ slotBytes = leb-true _ _ (f .1) in
+      ap₂ (λ (x : List ℕ) (xs : List (ℕ × List ℕ)). (id, x) ∷ xs)
+      (read-other s q w (base + elementOf id .position) (elementOf id .size) (clear-part (elementOf id .position) (elementOf id .size) z (clear-sym c))) (valued-write s ids (p .1))
+
+  output-write : (s : List ℕ) (exit : ℕ) → outputOf base (put s q w) exit ≡ outputOf base s exit
+  unfolding outputOf
+  output-write s exit = ap message (valued-write s (returned exit) (rows-fit exits exit exits-fit))
+
+-- ---- the slot of a vCPU
+record Placed (l : Layout) (h : List ℕ) (g v j : ℕ) : Type 0 where
+  alive : live l h g ≡ true
+  low : v < 2048
+  named : word l h j ≡ wordOf l g v
+
+slot-placed : (l : Layout) (h : List ℕ) (g v j : ℕ) → slotOf l h g v ≡ j → j < l .slots → Placed l h g v j
+unfolding slotOf slotHolding holds
+slot-placed l h g v j e k = go (live l h g) (ltb v 2048) refl refl e
+  where
+    go : (a b : Bool) → live l h g ≡ a → ltb v 2048 ≡ b → cond (a && b) (first (holds l h (wordOf l g v)) (l .slots) 0) (l .slots) ≡ j → Placed l h g v j
+    go true true p r z =
+        let f = first-found (holds l h (wordOf l g v)) (l .slots) 0 (omega (arith, z)) in
+        record { alive = p; low = ltb-true _ _ r; named = ap (word l h) (sym z) ∙ eqb-true _ _ (f .has) }
+    go true false p r z = absurd (omega arith)
+    go false b p r z = absurd (omega arith)
+
+word-used : (l : Layout) → Sound l → (g v : ℕ) → wordOf l g v ≢ 0
+unfolding wordOf
+word-used l so g v z = omega (arith, so .nameable)
+
+-- no other slot has the word, since the store is well formed
+placed-slot : (l : Layout) → Sound l → (t : List ℕ) → wellFormed l t ≡ true → (g v j : ℕ) → j < l .slots → Placed l (header l t) g v j → slotOf l (header l t) g v ≡ j
+unfolding slotOf slotHolding holds
+placed-slot l so t good g v j k p =
+    let f = words-are l (header l t) (formed l t good .words) in
+    simp (p .alive, lt-ltb _ _ (p .low))
+    (found-first (holds l (header l t) (wordOf l g v)) (l .slots) 0 j (record {
+      has = eq-eqb _ _ (p .named);
+      above = omega arith;
+      below = omega arith;
+      none = λ a x y. ne-eqb _ _ (λ z. f .sole j a k y (λ n. word-used l so g v (sym (p .named) ∙ n)) (z ∙ sym (p .named)));
+    }))
+
+-- vCPUs of two guests have two slots
+placed-apart : (l : Layout) (h : List ℕ) (g v guest vcpu j : ℕ) → Placed l h g v j → Placed l h guest vcpu j → guest ≡ g
+unfolding wordOf
+placed-apart l h g v guest vcpu j p r =
+    let e : (l .ids + guest) * 2048 + vcpu ≡ (l .ids + g) * 2048 + v = sym (r .named) ∙ p .named in
+    omega (arith, e, p .low, r .low)
+
+-- ---- each call
+module _ (l : Layout) (so : Sound l) (s : List ℕ) (good : wellFormed l s ≡ true) (g v j : ℕ) (found : slotOf l (header l s) g v ≡ j) (below : j < l .slots) where
+  long : length s ≡ l .size
+  long = formed l s good .long
+
+  full : length (header l s) ≡ l .«guests_at»
+  full = header-full l so s long
+
+  ours : Placed l (header l s) g v j
+  ours = slot-placed l (header l s) g v j found below
+
+  -- the vCPU's guest and its word, in what a call leaves
+  record Keeps (o : Outcome) : Type 0 where
+    alive : live l (header l (o .store)) g ≡ live l (header l s) g
+    named : word l (header l (o .store)) j ≡ word l (header l s) j
+
+  -- a call that leaves the header
+  keeps-header : (o : Outcome) → header l (o .store) ≡ header l s → Keeps o
+  keeps-header o e = record { alive = ap (λ (h : List ℕ). live l h g) e; named = ap (λ (h : List ℕ). word l h j) e }
+
+  kept : (b : List ℕ) (f : Fault) → Keeps (refuse s b f)
+  kept b f = keeps-header (refuse s b f) refl
+
+  -- another guest's vCPU, or one that is not there, is not in the slot
+  slot-other : (guest vcpu : ℕ) → guest ≢ g → slotOf l (header l s) guest vcpu ≢ j
+  slot-other guest vcpu n e = n (placed-apart l (header l s) g v guest vcpu j ours (slot-placed l (header l s) guest vcpu j e below))
+
+  -- no free slot is the vCPU's
+  slot-taken : (a : ℕ) → word l (header l s) a ≡ 0 → a ≢ j
+  slot-taken a z e = word-used l so g v (sym (ours .named) ∙ ap (word l (header l s)) (sym e) ∙ z)
+
+  caps-keeps : (flags : ℕ) → Keeps (getCapabilities l s flags)
+  unfolding getCapabilities
+  caps-keeps flags = decided Keeps s [] _ _ (kept []) (λ p. keeps-header _ refl)
+
+  clock-keeps : (guest timebase : ℕ) → Keeps (guestClock l s guest timebase)
+  unfolding guestClock
+  clock-keeps guest timebase = decided Keeps s [] _ _ (kept []) (λ p. keeps-header _ refl)
+
+  get-keeps : (flags guest vcpu : ℕ) (b : List ℕ) → Keeps (getState l s flags guest vcpu b)
+  unfolding getState
+  get-keeps flags guest vcpu b = decided Keeps s b _ _ (kept b) (λ p. keeps-header _ refl)
+
+  set-keeps : (flags guest vcpu : ℕ) (b : List ℕ) → Keeps (setState l s flags guest vcpu b)
+  unfolding setState
+  set-keeps flags guest vcpu b =
+      decided Keeps s [] _ _ (kept [])
+      (λ p. keeps-header _ (applied-header l so (baseOf l s (hasBit0 flags) guest vcpu) b (countOf b) s (base-values l so s (hasBit0 flags) guest vcpu)))
+
+  run-keeps : (flags guest vcpu : ℕ) (input output effect : List ℕ) (exit : ℕ) → Keeps (runVcpu l s flags guest vcpu input output effect exit)
+  unfolding runVcpu ran ranStore
+  run-keeps flags guest vcpu input output effect exit =
+      let base = baseOf l s false guest vcpu in
+      let b = inputOf s base input in
+      let at = base-values l so s false guest vcpu in
+      decided Keeps s output _ _ (kept output)
+      (λ p. keeps-header _ (applied-header l so base effect (countOf effect) (applied base b (countOf b) s) at ∙ applied-header l so base b (countOf b) s at))
+
+  -- the new guest was dead, and this one is live
+  guest-made : (k : ℕ) → 1 ≤ k → k ≤ l .guests → live l (header l s) k ≡ false → Keeps (accept k (withGuest l s k))
+  unfolding withGuest
+  guest-made k lo hi dead =
+      let e : header l (withGuest l s k) ≡ putLive (header l s) k 1 = header-values l so (putLive s k 1) (guestAt l k) (zeros guestBytes) (omega arith) ∙ header-live l so s k 1 hi in
+      record {
+        alive = ap (λ (h : List ℕ). live l h g) e ∙ live-else l so (header l s) full k lo hi 1 g (λ z. no-bool (sym dead ∙ ap (live l (header l s)) (sym z) ∙ ours .alive));
+        named = ap (λ (h : List ℕ). word l h j) e ∙ word-live l so (header l s) full k lo hi 1 j;
+      }
+
+  guest-keeps : (flags token : ℕ) → Keeps (createGuest l s flags token)
+  unfolding createGuest freeGuest isDead
+  guest-keeps flags token =
+      decided Keeps s [] _ _ (kept [])
+      (λ p. let hi : freeGuest l (header l s) ≤ l .guests = ltb-false _ _ (p .1 .1 .1 .0) in
+      guest-made (freeGuest l (header l s)) (first-bounds (isDead l (header l s)) (l .guests) 1 .0) hi (not-true _ (first-found (isDead l (header l s)) (l .guests) 1 (omega (arith, hi)) .has)))
+
+  -- the slot that create takes is free
+  free-word : freeSlot l (header l s) < l .slots → word l (header l s) (freeSlot l (header l s)) ≡ 0
+  unfolding freeSlot slotHolding holds
+  free-word h = eqb-true _ _ (first-found (holds l (header l s) 0) (l .slots) 0 (omega arith) .has)
+
+  vcpu-made : (a guest vcpu : ℕ) → a < l .slots → a ≢ j → Keeps (accept 0 (withVcpu l s a guest vcpu))
+  unfolding withVcpu
+  vcpu-made a guest vcpu h n =
+      let u = wordOf l guest vcpu in
+      let e : header l (withVcpu l s a guest vcpu) ≡ putWord l (header l s) a u = header-values l so (putWord l s a u) (slotAt l a) (zeros slotBytes) (omega (arith, so .guests-fit)) ∙ header-word l so s a u h in
+      record {
+        alive = ap (λ (x : List ℕ). live l x g) e ∙ live-same l so (header l s) full a h u g;
+        named = ap (λ (x : List ℕ). word l x j) e ∙ word-other l so (header l s) full a h u j (λ z. n (sym z));
+      }
+
+  vcpu-keeps : (flags guest vcpu : ℕ) → Keeps (createVcpu l s flags guest vcpu)
+  unfolding createVcpu
+  vcpu-keeps flags guest vcpu =
+      decided Keeps s [] _ _ (kept [])
+      (λ p. let h : freeSlot l (header l s) < l .slots = ltb-true _ _ (not-false _ (p .1 .1 .1 .1 .1 .0)) in
+      vcpu-made (freeSlot l (header l s)) guest vcpu h (slot-taken (freeSlot l (header l s)) (free-word h)))
+
+  ours-guest : guestOf l (word l (header l s) j) ≡ g
+  unfolding guestOf wordOf
+  ours-guest = ap (guestOf l) (ours .named) ∙ omega (arith, ours .low)
+
+  delete-keeps : (flags guest : ℕ) → hasBit0 flags ≡ false → guest ≢ g → Keeps (deleteGuest l s flags guest)
+  unfolding deleteGuest
+  delete-keeps flags guest one n = decided Keeps s [] _ _ (kept []) (λ p. go (hasBit0 flags) one (p .1 .1 .0))
+    where
+      go : (all : Bool) → all ≡ false → (not all && not (live l (header l s) guest)) ≡ false → Keeps (accept 0 (cond all (withoutGuests l s) (withoutGuest l s guest)))
+      go true e x = absurd (no-bool (sym e))
+      go false e x =
+          let lv = not-false _ x in
+          record { alive = deleted-else l so s good guest lv g (λ z. n (sym z)); named = deleted-other l so s good guest lv j (λ z. n (sym z ∙ ours-guest)) }
+
+  keeps : (c : Call) → Elsewhere g c → Keeps (outcome l s c)
+  unfolding outcome
+  keeps (GetCapabilities flags) n = caps-keeps flags
+  keeps (SetCapabilities flags bitmap) n = absurd n
+  keeps (CreateGuest flags token) n = guest-keeps flags token
+  keeps (CreateVcpu flags guest vcpu) n = vcpu-keeps flags guest vcpu
+  keeps (GetState flags guest vcpu buffer) n = get-keeps flags guest vcpu buffer
+  keeps (SetState flags guest vcpu buffer) n = set-keeps flags guest vcpu buffer
+  keeps (RunVcpu flags guest vcpu input output effect exit) n = run-keeps flags guest vcpu input output effect exit
+  keeps (DeleteGuest flags guest) n = delete-keeps flags guest (n .0) (n .1)
+  keeps (GuestClock guest timebase) n = clock-keeps guest timebase
+
+  pub apart-slot : (c : Call) → Elsewhere g c → slotOf l (header l (outcome l s c .store)) g v ≡ j
+  apart-slot c n =
+      let k = keeps c n in
+      placed-slot l so (outcome l s c .store) (well-formed-kept l so s good c) g v j below (record { alive = k .alive ∙ ours .alive; low = ours .low; named = k .named ∙ ours .named })
