@@ -373,3 +373,48 @@ module _ (l : Layout) (so : Sound l) (s : List ℕ) (good : wellFormed l s ≡ t
   apart-slot c n =
       let k = keeps c n in
       placed-slot l so (outcome l s c .store) (well-formed-kept l so s good c) g v j below (record { alive = k .alive ∙ ours .alive; low = ours .low; named = k .named ∙ ours .named })
+
+  -- ---- a write into the slot's values, before or after the call
+  module _ (q : ℕ) (w : List ℕ) (from : slotAt l j ≤ q) (upto : q + length w ≤ slotAt l j + slotBytes) where
+    behind : l .«guests_at» ≤ q
+    behind = omega (arith, so .guests-fit)
+
+    room : q + length w ≤ length s
+    room = omega (arith, long, so .whole)
+
+    -- the tests see the header and the length only
+    formed-same : wellFormed l (put s q w) ≡ wellFormed l s
+    formed-same = formed-values l so s q w behind
+
+    header-same : header l (put s q w) ≡ header l s
+    header-same = header-values l so s q w behind
+
+    slot-clear : (a : ℕ) → a ≢ j → Clear (slotAt l a) slotBytes q (length w)
+    slot-clear a n = go (slots-apart l a j n)
+      where
+        go : Clear (slotAt l a) slotBytes (slotAt l j) slotBytes → Clear (slotAt l a) slotBytes q (length w)
+        go (left h) = left (omega arith)
+        go (right h) = right (omega arith)
+
+    guest-clear : (k : ℕ) → 1 ≤ k → k ≤ l .guests → Clear (guestAt l k) guestBytes q (length w)
+    guest-clear k lo hi = left (omega (arith, so .guests-fit))
+
+    caps-write : (flags : ℕ) → getCapabilities l (put s q w) flags ≡ written q w (getCapabilities l s flags)
+    unfolding getCapabilities
+    caps-write flags = decided-write s q w [] _ _ _ _ (rw formed-same) (λ p. refl)
+
+    -- the clock's offset is one of the guest's values
+    offset-place : position GuestWide 0x0004 ≡ 4
+    unfolding position below table
+    offset-place = refl
+
+    offset-same : (guest : ℕ) → 1 ≤ guest → guest ≤ l .guests → offsetOf l (put s q w) guest ≡ offsetOf l s guest
+    offset-same guest lo hi =
+        be-other s q w (guestAt l guest + position GuestWide 0x0004) 8 (clear-part (position GuestWide 0x0004) 8 (omega (arith, offset-place)) (clear-sym (guest-clear guest lo hi)))
+
+    clock-write : (guest timebase : ℕ) → guestClock l (put s q w) guest timebase ≡ written q w (guestClock l s guest timebase)
+    unfolding guestClock
+    clock-write guest timebase =
+        decided-write s q w [] _ _ _ _ (rw (formed-same, header-same))
+        (λ p. let b = live-parts l (header l s) guest (not-false _ (p .1 .0)) in
+        ap (λ (x : ℕ). accept ((timebase + x) % 2 ^ 64) (put s q w)) (offset-same guest (b .0) (b .1)))
