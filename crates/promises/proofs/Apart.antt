@@ -46,7 +46,7 @@ use Rattle.store.proofs.Readings.{step}
 use Rattle.store.proofs.Tests.{live-parts}
 use Rattle.store.proofs.Fields.{word-other, live-same, word-live, live-else}
 use Rattle.store.proofs.Frame.{header-full, header-values, header-word, header-live, formed, formed-values}
-use Rattle.store.proofs.Kept.{words-are, deleted-else, deleted-other}
+use Rattle.store.proofs.Kept.{words-are, drop-less, deleted-else, deleted-other}
 use Rattle.transfer.specs.Transfer.{valueAt, putFrom, putAs, applied, readFrom, fillAs, filled}
 use Rattle.exits.specs.Exits.{exits, rowOf, returned, elementOf, valued, outputOf}
 use Rattle.exits.proofs.Written.{allFit, rowFits, rowsFit, exits-fit, Fits, fits-row}
@@ -418,3 +418,71 @@ module _ (l : Layout) (so : Sound l) (s : List ℕ) (good : wellFormed l s ≡ t
         decided-write s q w [] _ _ _ _ (rw (formed-same, header-same))
         (λ p. let b = live-parts l (header l s) guest (not-false _ (p .1 .0)) in
         ap (λ (x : ℕ). accept ((timebase + x) % 2 ^ 64) (put s q w)) (offset-same guest (b .0) (b .1)))
+
+    -- fields of the header, in a store t of the same length
+    module _ (t : List ℕ) (same : length t ≡ length s) where
+      live-write : (k b : ℕ) → k ≤ l .guests → putLive (put t q w) k b ≡ put (putLive t k b) q w
+      unfolding putLive
+      live-write k b hi = field-write t (63 + k) 1 b (l .«guests_at») q w (omega (arith, so .head, so .words)) behind (omega (arith, room))
+
+      word-write : (a u : ℕ) → a < l .slots → putWord l (put t q w) a u ≡ put (putWord l t a u) q w
+      unfolding putWord
+      word-write a u h = field-write t (wordAt l a) (l .width) u (l .«guests_at») q w (omega (arith, step (l .width) a (l .slots) h, so .words)) behind (omega (arith, room))
+
+      drop-write : (guest a : ℕ) → a < l .slots → dropWord l guest a (put t q w) ≡ put (dropWord l guest a t) q w
+      unfolding dropWord
+      drop-write guest a h =
+          ap (λ (x : List ℕ). cond (eqb (guestOf l (word l x a)) guest) (putWord l (put t q w) a 0) (put t q w)) (header-values l so t q w behind)
+          ∙ go (eqb (guestOf l (word l (header l t) a)) guest)
+        where
+          go : (x : Bool) → cond x (putWord l (put t q w) a 0) (put t q w) ≡ put (cond x (putWord l t a 0) t) q w
+          go true = word-write a 0 h
+          go false = refl
+
+    -- values that are zeroed
+    zeros-write : (t : List ℕ) (i n : ℕ) → Clear i n q (length w) → put (put t q w) i (zeros n) ≡ put (put t i (zeros n)) q w
+    zeros-write t i n c = sym (put-comm t i (zeros n) q w (subst (λ (m : ℕ). Clear i m q (length w)) (sym (length-zeros n)) c))
+
+    made-guest : (k : ℕ) → 1 ≤ k → k ≤ l .guests → withGuest l (put s q w) k ≡ put (withGuest l s k) q w
+    unfolding withGuest
+    made-guest k lo hi = ap (λ (t : List ℕ). put t (guestAt l k) (zeros guestBytes)) (live-write s refl k 1 hi) ∙ zeros-write (putLive s k 1) (guestAt l k) guestBytes (guest-clear k lo hi)
+
+    guest-write : (flags token : ℕ) → createGuest l (put s q w) flags token ≡ written q w (createGuest l s flags token)
+    unfolding createGuest freeGuest
+    guest-write flags token =
+        decided-write s q w [] _ _ _ _ (rw (formed-same, header-same))
+        (λ p. rw header-same (ap (accept (freeGuest l (header l s))) (made-guest (freeGuest l (header l s)) (first-bounds (isDead l (header l s)) (l .guests) 1 .0) (ltb-false _ _ (p .1 .1 .1 .0)))))
+
+    made-vcpu : (a guest vcpu : ℕ) → a < l .slots → a ≢ j → withVcpu l (put s q w) a guest vcpu ≡ put (withVcpu l s a guest vcpu) q w
+    unfolding withVcpu
+    made-vcpu a guest vcpu h n =
+        ap (λ (t : List ℕ). put t (slotAt l a) (zeros slotBytes)) (word-write s refl a (wordOf l guest vcpu) h) ∙ zeros-write (putWord l s a (wordOf l guest vcpu)) (slotAt l a) slotBytes (slot-clear a n)
+
+    vcpu-write : (flags guest vcpu : ℕ) → createVcpu l (put s q w) flags guest vcpu ≡ written q w (createVcpu l s flags guest vcpu)
+    unfolding createVcpu
+    vcpu-write flags guest vcpu =
+        decided-write s q w [] _ _ _ _ (rw (formed-same, header-same))
+        (λ p. let a = freeSlot l (header l s) in
+        let h : freeSlot l (header l s) < l .slots = ltb-true _ _ (not-false _ (p .1 .1 .1 .1 .1 .0)) in
+        rw header-same (ap (accept 0) (made-vcpu a guest vcpu h (slot-taken a (free-word h)))))
+
+    drops-write : (guest n : ℕ) → n ≤ l .slots → dropWords l guest n (put s q w) ≡ put (dropWords l guest n s) q w
+    unfolding dropWords
+    drops-write guest zero h = refl
+    drops-write guest (suc n) h =
+        ap (dropWord l guest n) (drops-write guest n (omega arith)) ∙ drop-write (dropWords l guest n s) (drop-less l so s good guest n (omega arith) .long) guest n (omega arith)
+
+    left-guest : (guest : ℕ) → guest ≤ l .guests → withoutGuest l (put s q w) guest ≡ put (withoutGuest l s guest) q w
+    unfolding withoutGuest
+    left-guest guest hi =
+        ap (λ (t : List ℕ). putLive t guest 0) (drops-write guest (l .slots) (omega arith))
+        ∙ live-write (dropWords l guest (l .slots) s) (drop-less l so s good guest (l .slots) (omega arith) .long) guest 0 hi
+
+    delete-write : (flags guest : ℕ) → hasBit0 flags ≡ false → deleteGuest l (put s q w) flags guest ≡ written q w (deleteGuest l s flags guest)
+    unfolding deleteGuest
+    delete-write flags guest one = decided-write s q w [] _ _ _ _ (rw (formed-same, header-same)) (λ p. go (hasBit0 flags) one (p .1 .1 .0))
+      where
+        go : (all : Bool) → all ≡ false → (not all && not (live l (header l s) guest)) ≡ false
+            → accept 0 (cond all (withoutGuests l (put s q w)) (withoutGuest l (put s q w) guest)) ≡ written q w (accept 0 (cond all (withoutGuests l s) (withoutGuest l s guest)))
+        go true e x = absurd (no-bool (sym e))
+        go false e x = ap (accept 0) (left-guest guest (live-parts l (header l s) guest (not-false _ x) .1))
