@@ -50,14 +50,14 @@ use Rattle.store.proofs.Kept.{words-are, drop-less, deleted-else, deleted-other
 use Rattle.transfer.specs.Transfer.{valueAt, putFrom, putAs, applied, readFrom, fillAs, filled}
 use Rattle.exits.specs.Exits.{exits, rowOf, returned, elementOf, valued, outputOf}
 use Rattle.exits.proofs.Written.{allFit, rowFits, rowsFit, exits-fit, Fits, fits-row}
-use Rattle.l0.specs.Refusals.{Outcome, accept, refuse, decide, malformed, unsupported, notLive, hasBit0}
-use Rattle.l0.specs.State.{baseOf, getState, setState}
+use Rattle.l0.specs.Refusals.{Outcome, success, accept, refuse, decide, malformed, unsupported, notLive, hasBit0}
+use Rattle.l0.specs.State.{baseOf, contextOf, getUse, getState, setUse, setState}
 use Rattle.l0.specs.Run.{inputOf, ranStore, ran, runVcpu}
 use Rattle.l0.specs.Calls.{getCapabilities, createGuest, createVcpu, deleteGuest, offsetOf, guestClock, Call, GetCapabilities, SetCapabilities, CreateGuest, CreateVcpu, GetState, SetState, RunVcpu, DeleteGuest, GuestClock, outcome}
 use Rattle.l0.proofs.Judging.{Passed}
 use Rattle.promises.specs.Apart.{Elsewhere}
 use Rattle.promises.proofs.Kept.{decided, applied-header, base-values, well-formed-kept}
-use Rattle.promises.proofs.States.{slots-apart}
+use Rattle.promises.proofs.States.{walked, get-room, set-room, slots-apart}
 
 -- what a call leaves, with w written into the store from q on
 abbrev pub written : ℕ → List ℕ → Outcome → Outcome
@@ -486,3 +486,45 @@ module _ (l : Layout) (so : Sound l) (s : List ℕ) (good : wellFormed l s ≡ t
             → accept 0 (cond all (withoutGuests l (put s q w)) (withoutGuest l (put s q w) guest)) ≡ written q w (accept 0 (cond all (withoutGuests l s) (withoutGuest l s guest)))
         go true e x = absurd (no-bool (sym e))
         go false e x = ap (accept 0) (left-guest guest (live-parts l (header l s) guest (not-false _ x) .1))
+
+    -- ---- the values of another guest, or of its vCPU
+    base-same : (wide : Bool) (guest vcpu : ℕ) → baseOf l (put s q w) wide guest vcpu ≡ baseOf l s wide guest vcpu
+    unfolding baseOf
+    base-same wide guest vcpu = rw header-same
+
+    base-clear : (wide : Bool) (guest vcpu : ℕ) → guest ≢ g → live l (header l s) guest ≡ true → Clear (baseOf l s wide guest vcpu) (cond wide guestBytes slotBytes) q (length w)
+    unfolding baseOf
+    base-clear true guest vcpu n lv = let b = live-parts l (header l s) guest lv in guest-clear guest (b .0) (b .1)
+    base-clear false guest vcpu n lv = slot-clear (slotOf l (header l s) guest vcpu) (slot-other guest vcpu n)
+
+    get-write : (flags guest vcpu : ℕ) (b : List ℕ) → guest ≢ g → getState l (put s q w) flags guest vcpu b ≡ written q w (getState l s flags guest vcpu b)
+    unfolding getState
+    get-write flags guest vcpu b n =
+        decided-write s q w b _ _ _ _ (rw (formed-same, header-same))
+        (λ p. let wide = hasBit0 flags in
+        let c = subst (λ (m : ℕ). Clear (baseOf l s wide guest vcpu) m q (length w)) (sym (get-room l s flags guest vcpu b)) (base-clear wide guest vcpu n (not-false _ (p .1 .1 .0))) in
+        rw (base-same wide guest vcpu)
+        (ap (λ (x : List ℕ). record { answer = success 0; store = put s q w; buffer = x })
+        (filled-write (contextOf l s (getUse wide)) (baseOf l s wide guest vcpu) b (walked l s flags guest vcpu b (getUse wide) p) q w c (countOf b) (omega arith) s)))
+
+    set-write : (flags guest vcpu : ℕ) (b : List ℕ) → guest ≢ g → setState l (put s q w) flags guest vcpu b ≡ written q w (setState l s flags guest vcpu b)
+    unfolding setState
+    set-write flags guest vcpu b n =
+        decided-write s q w [] _ _ _ _ (rw (formed-same, header-same))
+        (λ p. let wide = hasBit0 flags in
+        let c = subst (λ (m : ℕ). Clear (baseOf l s wide guest vcpu) m q (length w)) (sym (set-room l s flags guest vcpu b)) (base-clear wide guest vcpu n (not-false _ (p .1 .1 .0))) in
+        rw (base-same wide guest vcpu)
+        (ap (accept 0) (applied-write (contextOf l s (setUse wide)) (baseOf l s wide guest vcpu) b (walked l s flags guest vcpu b (setUse wide) p) q w c (countOf b) (omega arith) s)))
+
+    -- ---- run
+    module _ (flags guest vcpu : ℕ) (input output effect : List ℕ) (exit : ℕ) (n : guest ≢ g) where
+      abbrev base : ℕ
+      base = baseOf l s false guest vcpu
+
+      clear : Clear base slotBytes q (length w)
+      unfolding baseOf
+      clear = slot-clear (slotOf l (header l s) guest vcpu) (slot-other guest vcpu n)
+
+      -- a number among the slot's values
+      number-same : (p : ℕ) → p + 8 ≤ slotBytes → be (put s q w) (base + p) 8 ≡ be s (base + p) 8
+      number-same p h = be-other s q w (base + p) 8 (clear-part p 8 h (clear-sym clear))
