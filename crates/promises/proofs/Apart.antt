@@ -26,6 +26,7 @@ use Rattle.elements.specs.declared.Source.the-variants.{Fixed, Stored}
 use Rattle.elements.specs.declared.Entry.{Entry}
 use Rattle.elements.specs.declared.Kind.{Kind}
 use Rattle.elements.specs.declared.Kind.the-variants.{Unlisted, Nop, Listed}
+use Rattle.elements.specs.declared.Usage.the-variants.{RunInput, Effect as InEffect}
 use Rattle.elements.specs.declared.Context.{Context}
 use Rattle.elements.specs.Table.{table, below, position, kindOf, numberOf}
 use Rattle.elements.specs.Rules.{permits, sizeFits}
@@ -52,11 +53,12 @@ use Rattle.exits.specs.Exits.{exits, rowOf, returned, elementOf, valued, output
 use Rattle.exits.proofs.Written.{allFit, rowFits, rowsFit, exits-fit, Fits, fits-row}
 use Rattle.l0.specs.Refusals.{Outcome, success, accept, refuse, decide, malformed, unsupported, notLive, hasBit0}
 use Rattle.l0.specs.State.{baseOf, contextOf, getUse, getState, setUse, setState}
-use Rattle.l0.specs.Run.{inputOf, ranStore, ran, runVcpu}
+use Rattle.l0.specs.Run.{inputSize, outputSize, inputOf, runTests, ranStore, ran, runVcpu}
 use Rattle.l0.specs.Calls.{getCapabilities, createGuest, createVcpu, deleteGuest, offsetOf, guestClock, Call, GetCapabilities, SetCapabilities, CreateGuest, CreateVcpu, GetState, SetState, RunVcpu, DeleteGuest, GuestClock, outcome}
 use Rattle.l0.proofs.Judging.{Passed}
 use Rattle.promises.specs.Apart.{Elsewhere}
 use Rattle.promises.proofs.Kept.{decided, applied-header, base-values, well-formed-kept}
+use Rattle.promises.proofs.Runs.{input-walked, effect-walked}
 use Rattle.promises.proofs.States.{walked, get-room, set-room, slots-apart}
 
 -- what a call leaves, with w written into the store from q on
@@ -525,6 +527,61 @@ module _ (l : Layout) (so : Sound l) (s : List ℕ) (good : wellFormed l s ≡ t
       unfolding baseOf
       clear = slot-clear (slotOf l (header l s) guest vcpu) (slot-other guest vcpu n)
 
-      -- a number among the slot's values
-      number-same : (p : ℕ) → p + 8 ≤ slotBytes → be (put s q w) (base + p) 8 ≡ be s (base + p) 8
-      number-same p h = be-other s q w (base + p) 8 (clear-part p 8 h (clear-sym clear))
+      -- the registered sizes are two of the other slot's values
+      size-same : (id : ℕ) → position Thread id + 16 ≤ slotBytes → be (put s q w) (base + position Thread id + 8) 8 ≡ be s (base + position Thread id + 8) 8
+      size-same id h = be-other s q w (base + position Thread id + 8) 8 (clear-part 8 8 (omega arith) (clear-part (position Thread id) 16 h (clear-sym clear)))
+
+      places : (position Thread 0x0C00 ≡ 0) × (position Thread 0x0C01 ≡ 16)
+      unfolding position below table
+      places = (refl, refl)
+
+      input-same : inputSize (put s q w) base ≡ inputSize s base
+      input-same = size-same 0x0C00 (omega (arith, places .0))
+
+      output-same : outputSize (put s q w) base ≡ outputSize s base
+      output-same = size-same 0x0C01 (omega (arith, places .1))
+
+      tests-same : runTests l (put s q w) flags guest vcpu input (length output) effect exit ≡ runTests l s flags guest vcpu input (length output) effect exit
+      tests-same = rw (formed-same, header-same, base-same false guest vcpu, input-same, output-same)
+
+      -- the bytes of the lent input that count
+      abbrev given : List ℕ
+      given = inputOf s base input
+
+      ran-store : Passed (runTests l s flags guest vcpu input (length output) effect exit) → ranStore base given effect (put s q w) ≡ put (ranStore base given effect s) q w
+      unfolding ranStore
+      ran-store p =
+          ap (applied base effect (countOf effect)) (applied-write (contextOf l s RunInput) base given (input-walked l s flags guest vcpu input output effect exit p) q w clear (countOf given) (omega arith) s)
+          ∙ applied-write (contextOf l s InEffect) base effect (effect-walked l s flags guest vcpu input output effect exit p) q w clear (countOf effect) (omega arith) (applied base given (countOf given) s)
+
+      ran-write : Passed (runTests l s flags guest vcpu input (length output) effect exit) → ran base (put s q w) given output effect exit ≡ written q w (ran base s given output effect exit)
+      unfolding ran
+      ran-write p =
+          ap (λ (t : List ℕ). record { answer = success exit; store = t; buffer = put output 0 (outputOf base t exit) }) (ran-store p)
+          ∙ ap (λ (x : List ℕ). record { answer = success exit; store = put (ranStore base given effect s) q w; buffer = put output 0 x }) (output-write base q w clear (ranStore base given effect s) exit)
+
+      run-write : runVcpu l (put s q w) flags guest vcpu input output effect exit ≡ written q w (runVcpu l s flags guest vcpu input output effect exit)
+      unfolding runVcpu
+      run-write = decided-write s q w output _ _ _ _ tests-same (λ p. rw (base-same false guest vcpu, input-same) (ran-write p))
+
+    pub apart-write : (c : Call) → Elsewhere g c → outcome l (put s q w) c ≡ record { answer = outcome l s c .answer; store = put (outcome l s c .store) q w; buffer = outcome l s c .buffer }
+    unfolding outcome
+    apart-write (GetCapabilities flags) n = caps-write flags
+    apart-write (SetCapabilities flags bitmap) n = absurd n
+    apart-write (CreateGuest flags token) n = guest-write flags token
+    apart-write (CreateVcpu flags guest vcpu) n = vcpu-write flags guest vcpu
+    apart-write (GetState flags guest vcpu buffer) n = get-write flags guest vcpu buffer n
+    apart-write (SetState flags guest vcpu buffer) n = set-write flags guest vcpu buffer n
+    apart-write (RunVcpu flags guest vcpu input output effect exit) n = run-write flags guest vcpu input output effect exit n
+    apart-write (DeleteGuest flags guest) n = delete-write flags guest (n .0)
+    apart-write (GuestClock guest timebase) n = clock-write guest timebase
+
+  -- the slot's own values written back: the call leaves them there
+  pub apart-values : (c : Call) → Elsewhere g c → bytesAt (outcome l s c .store) (slotAt l j) slotBytes ≡ bytesAt s (slotAt l j) slotBytes
+  apart-values c n =
+      let w = bytesAt s (slotAt l j) slotBytes in
+      let t = outcome l s c .store in
+      let len : length (bytesAt s (slotAt l j) slotBytes) ≡ slotBytes = length-bytesAt s (slotAt l j) slotBytes (omega (arith, long, so .whole)) in
+      let e : outcome l s c .store ≡ put (outcome l s c .store) (slotAt l j) (bytesAt s (slotAt l j) slotBytes) =
+      ap (λ (x : List ℕ). outcome l x c .store) (sym (put-same s (slotAt l j) slotBytes)) ∙ ap (λ (o : Outcome). o .store) (apart-write (slotAt l j) w (omega arith) (omega (arith, len)) c n) in
+      ap₂ (λ (x : List ℕ) (m : ℕ). bytesAt x (slotAt l j) m) e (sym len) ∙ read-back t (slotAt l j) w (omega (arith, len, formed l t (well-formed-kept l so s good c) .long, so .whole))

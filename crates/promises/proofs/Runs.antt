@@ -127,10 +127,10 @@ module _ (l : Layout) (s : List ℕ) (flags guest vcpu : ℕ) (input output effe
   abbrev tests : List (Bool × Fault)
   tests = runTests l s flags guest vcpu input (length output) effect exit
 
-  input-walked : Passed tests → firstBad (contextOf l s RunInput) given ≡ Done
+  pub input-walked : Passed tests → firstBad (contextOf l s RunInput) given ≡ Done
   input-walked p = stopped-not (firstBad (contextOf l s RunInput) given) (p .1 .1 .1 .1 .1 .1 .1 .1 .0)
 
-  effect-walked : Passed tests → firstBad (contextOf l s InEffect) effect ≡ Done
+  pub effect-walked : Passed tests → firstBad (contextOf l s InEffect) effect ≡ Done
   effect-walked p = stopped-not (firstBad (contextOf l s InEffect) effect) (p .1 .1 .1 .1 .1 .1 .1 .1 .1 .1 .1 .0)
 
   record ByteKept (j : ℕ) (o : Outcome) : Type 0 where
