@@ -4,21 +4,19 @@ use mathlib.Core.Path.{_≡_, refl, sym, ap, ap₂, _∙_, subst}
 use mathlib.Core.Logic.{_≢_}
 use mathlib.Core.Bool.{Bool, true, false, not, _&&_, cond}
 use mathlib.Core.List.{List, [], _∷_, _++_}
-use Prim.Native.Nat.{ℕ, zero, suc, _+_, _-_, _*_, _/_, _%_, _^_, _≤_, _<_}
+use Prim.Native.Nat.{ℕ, zero, suc, _+_, _-_, _*_, _%_, _^_, _≤_, _<_}
 use native.Mathlib.Nat.{zero-add}
 use native.Mathlib.Omega.{arith}
-use native.Mathlib.Decide.{decLt}
 use lib.Dec.{eqb, leb, ltb}
-use lib.ListN.{length, getD}
+use lib.ListN.{length}
 use lib.Seq.{ext-getD}
 use borrow.Author.Tests.{eq-eqb, ne-eqb, lt-ltb, leb-true, eqb-true, ltb-true, ltb-false, not-true, not-false}
 use Rattle.octets.specs.Bytes.{bytesAt, put, be, zeros}
-use Rattle.octets.specs.Bits.{putBits}
+use Rattle.octets.specs.Bits.{bit, bits, putBits}
 use Rattle.octets.proofs.Bytes.{Clear, left, right, clear-sym, clear-part, length-put, length-bytesAt, length-zeros, whole, part-append, getD-bytesAt, put-inside, put-comm, put-same, read-back, read-other}
 use Rattle.octets.proofs.Numbers.{be-other}
 use Rattle.octets.proofs.Bits.{length-putBits, front-putBits, getD-putBits}
 use Rattle.answer.specs.declared.Fault.{Fault}
-use Rattle.answer.specs.declared.Fault.the-variants.{Store, Guest, Token, Vcpu, Room, Exists}
 use Rattle.answer.specs.Refusals.{firstOf}
 use Rattle.elements.specs.declared.Scope.the-variants.{Guest as GuestWide, Thread}
 use Rattle.elements.specs.declared.Source.{Source}
@@ -38,11 +36,11 @@ use Rattle.gsb.specs.Walk.{countOf, idAt, sizeAt, offsetAt, firstBad}
 use Rattle.gsb.proofs.Judged.{GoodElement, good-element}
 use Rattle.gsb.proofs.First.{accepted-exactly}
 use Rattle.store.specs.declared.Layout.{Layout}
-use Rattle.store.specs.Layout.{Sound, guestBytes, slotBytes, guestAt, slotAt}
-use Rattle.store.specs.Search.{first}
-use Rattle.store.specs.Header.{header, offered, live, wordAt, word, wordOf, guestOf, holds, slotHolding, slotOf, freeSlot, isDead, freeGuest}
-use Rattle.store.specs.Store.{wellFormed, putLive, putWord, withGuest, withVcpu, dropWord, dropWords, withoutGuest, withoutGuests}
-use Rattle.store.proofs.Search.{no-bool, both, first-bounds, Found, first-found, found-first}
+use Rattle.store.specs.Layout.{Sound, small, guestBytes, slotBytes, guestAt, slotAt}
+use Rattle.store.specs.Search.{every, first}
+use Rattle.store.specs.Header.{header, capabilitiesOf, live, wordAt, word, wordOf, isUsed, guestOf, holds, lacks, alone, slotGood, headGood, wordsGood, slotHolding, slotOf, freeSlot, isDead, freeGuest}
+use Rattle.store.specs.Store.{wellFormed, fresh, putLive, putWord, withGuest, withVcpu, dropWord, dropWords, withoutGuest, withoutGuests}
+use Rattle.store.proofs.Search.{no-bool, both, first-bounds, first-found, found-first}
 use Rattle.store.proofs.Readings.{step}
 use Rattle.store.proofs.Tests.{live-parts}
 use Rattle.store.proofs.Fields.{word-other, live-same, word-live, live-else}
@@ -50,8 +48,8 @@ use Rattle.store.proofs.Frame.{header-full, header-values, header-word, header-
 use Rattle.store.proofs.Kept.{words-are, drop-less, deleted-else, deleted-other}
 use Rattle.transfer.specs.Transfer.{valueAt, putFrom, putAs, applied, readFrom, fillAs, filled}
 use Rattle.exits.specs.Exits.{exits, rowOf, returned, elementOf, valued, outputOf}
-use Rattle.exits.proofs.Written.{allFit, rowFits, rowsFit, exits-fit, Fits, fits-row}
-use Rattle.l0.specs.Refusals.{Outcome, success, accept, refuse, decide, malformed, unsupported, notLive, hasBit0}
+use Rattle.exits.proofs.Written.{allFit, rowFits, rowsFit, exits-fit, fits-row}
+use Rattle.l0.specs.Refusals.{Outcome, success, accept, refuse, decide, hasBit0}
 use Rattle.l0.specs.State.{baseOf, contextOf, getUse, getState, setUse, setState}
 use Rattle.l0.specs.Run.{inputSize, outputSize, inputOf, runTests, ranStore, ran, runVcpu}
 use Rattle.l0.specs.Calls.{getCapabilities, createGuest, createVcpu, deleteGuest, offsetOf, guestClock, Call, GetCapabilities, SetCapabilities, CreateGuest, CreateVcpu, GetState, SetState, RunVcpu, DeleteGuest, GuestClock, outcome}
@@ -62,7 +60,7 @@ use Rattle.promises.proofs.Runs.{input-walked, effect-walked}
 use Rattle.promises.proofs.States.{walked, get-room, set-room, slots-apart}
 
 -- what a call leaves, with w written into the store from q on
-abbrev pub written : ℕ → List ℕ → Outcome → Outcome
+abbrev written : ℕ → List ℕ → Outcome → Outcome
 written q w o = record { answer = o .answer; store = put (o .store) q w; buffer = o .buffer }
 
 -- a call whose tests don't see the write: its refusals leave it, and so need only what is done where no test holds
@@ -81,16 +79,15 @@ decided-write s q w b tests seen o done e g = ap (λ (xs : List (Bool × Fault))
         at false y ih = ih (λ p. h (y, p))
 
 -- ---- a field of the header, written before or after values
-module _ (s : List ℕ) (a n v m : ℕ) (inside : a + n ≤ 8 * m) where
-  -- the bytes from m on are as they were
-  field-behind : (k : ℕ) → m + k ≤ length s → bytesAt (putBits s a n v) m k ≡ bytesAt s m k
-  field-behind k room =
-      ext-getD 0 (bytesAt (putBits s a n v) m k) (bytesAt s m k) (long ∙ sym (length-bytesAt s m k room))
-      (λ i h. let r : i < k = omega (arith, long) in
-      getD-bytesAt (putBits s a n v) m k i r ∙ getD-putBits s a n v (m + i) (left (omega arith)) ∙ sym (getD-bytesAt s m k i r))
-    where
-      long : length (bytesAt (putBits s a n v) m k) ≡ k
-      long = length-bytesAt (putBits s a n v) m k (omega (arith, length-putBits s a n v))
+-- the bytes from m on don't see it
+field-behind : (s : List ℕ) (a n v m k : ℕ) → a + n ≤ 8 * m → m + k ≤ length s → bytesAt (putBits s a n v) m k ≡ bytesAt s m k
+field-behind s a n v m k inside room =
+    ext-getD 0 (bytesAt (putBits s a n v) m k) (bytesAt s m k) (long ∙ sym (length-bytesAt s m k room))
+    (λ i h. let r : i < k = omega (arith, long) in
+    getD-bytesAt (putBits s a n v) m k i r ∙ getD-putBits s a n v (m + i) (left (omega arith)) ∙ sym (getD-bytesAt s m k i r))
+  where
+    long : length (bytesAt (putBits s a n v) m k) ≡ k
+    long = length-bytesAt (putBits s a n v) m k (omega (arith, length-putBits s a n v))
 
 -- a list is its first m bytes and those behind them
 halves : (x y : List ℕ) (m : ℕ) → length x ≡ length y → m ≤ length x → bytesAt x 0 m ≡ bytesAt y 0 m → bytesAt x m (length x - m) ≡ bytesAt y m (length x - m) → x ≡ y
@@ -124,8 +121,8 @@ field-write s a n v m q w inside from upto = halves (putBits (put s q w) a n v) 
 
     back : bytesAt (putBits (put s q w) a n v) m k ≡ bytesAt (put t q w) m k
     back =
-        field-behind (put s q w) a n v m inside k (omega (arith, long, length-put s q w)) ∙ moved s
-        ∙ ap (λ (x : List ℕ). put x (q - m) w) (sym (field-behind s a n v m inside k (omega (arith, long)))) ∙ sym (moved t)
+        field-behind (put s q w) a n v m k inside (omega (arith, long, length-put s q w)) ∙ moved s
+        ∙ ap (λ (x : List ℕ). put x (q - m) w) (sym (field-behind s a n v m k inside (omega (arith, long)))) ∙ sym (moved t)
 
 -- ---- what is moved to and from other values
 -- an accepted buffer, and values at base that a write into q.. does not meet
@@ -585,3 +582,11 @@ module _ (l : Layout) (so : Sound l) (s : List ℕ) (good : wellFormed l s ≡ t
       let e : outcome l s c .store ≡ put (outcome l s c .store) (slotAt l j) (bytesAt s (slotAt l j) slotBytes) =
       ap (λ (x : List ℕ). outcome l x c .store) (sym (put-same s (slotAt l j) slotBytes)) ∙ ap (λ (o : Outcome). o .store) (apart-write (slotAt l j) w (omega arith) (omega (arith, len)) c n) in
       ap₂ (λ (x : List ℕ) (m : ℕ). bytesAt x (slotAt l j) m) e (sym len) ∙ read-back t (slotAt l j) w (omega (arith, len, formed l t (well-formed-kept l so s good c) .long, so .whole))
+
+-- ---- the hypotheses can be met: vCPU 2047 of guest 3 in slot 0, vCPU 0 of guest 1 in slot 1
+abbrev sample : List ℕ
+sample = put (fresh small) 8 (0xE0 ∷ 0 ∷ 0x9F ∷ 0xFF ∷ 0x88 ∷ 0x00 ∷ [])
+
+met : (wellFormed small sample ≡ true) × (slotOf small (header small sample) 3 2047 ≡ 0) × (slotOf small (header small sample) 1 0 ≡ 1)
+unfolding wellFormed fresh zeros put header bytesAt headGood capabilitiesOf be wordsGood every slotGood isUsed guestOf alone lacks live slotOf slotHolding first holds wordOf word bits bit
+met = (refl, refl, refl)
