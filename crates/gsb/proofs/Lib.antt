@@ -4,3 +4,4 @@ pub mod Walks
 pub mod Lookups
 pub mod First
 pub mod Messages
+pub mod RoundTrip

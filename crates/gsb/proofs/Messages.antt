@@ -16,6 +16,23 @@ length-element id v =
     length-append (digits 2 id) (digits 2 (length v) ++ v) ∙ ap₂ (λ (a b : ℕ). a + b) (length-digits 2 id) (length-append (digits 2 (length v)) v ∙ ap (λ (a : ℕ). a + length v) (length-digits 2 (length v)))
     ∙ (omega arith)
 
+-- what they are made of
+pub element-parts : (id : ℕ) (v : List ℕ) → elementBytes id v ≡ digits 2 id ++ (digits 2 (length v) ++ v)
+unfolding elementBytes
+element-parts id v = refl
+
+pub elements-parts : (es : List (ℕ × List ℕ)) (id : ℕ) (v : List ℕ) → elementsBytes ((id, v) ∷ es) ≡ elementBytes id v ++ elementsBytes es
+unfolding elementsBytes
+elements-parts es id v = refl
+
+pub elements-nil : elementsBytes [] ≡ []
+unfolding elementsBytes
+elements-nil = refl
+
+pub message-parts : (es : List (ℕ × List ℕ)) → message es ≡ digits 4 (length es) ++ elementsBytes es
+unfolding message
+message-parts es = refl
+
 -- what `put_element` writes, in its three writes
 pub element-put : (s a b c src : List ℕ) (at id from size : ℕ) → a ≡ put s at (digits 2 id) → b ≡ put a (at + 2) (digits 2 size)
     → c ≡ put b (at + 4) (bytesAt src from size) → from + size ≤ length src → c ≡ put s at (elementBytes id (bytesAt src from size))
