@@ -8,11 +8,11 @@ use native.Mathlib.Numerals.{add-one}
 use native.Mathlib.Decide.{decLt}
 use native.Mathlib.Omega.{arith}
 use lib.Dec.{ltb}
-use lib.ListN.{length, getD, take, drop, length-append}
-use lib.Seq.{take-suc, take-length, take-append-seam, drop-append-seam, split-at}
+use lib.ListN.{length, getD, take, drop, length-append, getD-replicate}
+use lib.Seq.{take-suc, take-length, take-append-seam, drop-append-seam, split-at, ext-getD}
 use borrow.Author.Tests.{lt-ltb, le-ltb}
 use Rattle.octets.specs.Bytes.{bytesAt, put, be, digits, zeros}
-use Rattle.octets.proofs.Bytes.{length-put, length-bytesAt, part-lent, part-of-part, read-back, whole, length-zeros}
+use Rattle.octets.proofs.Bytes.{length-put, length-bytesAt, part-lent, part-of-part, read-back, whole, length-zeros, getD-bytesAt}
 use Rattle.octets.proofs.Numbers.{be-part, be-of-digits, length-digits}
 use Rattle.answer.specs.declared.Bad.{Bad}
 use Rattle.answer.specs.declared.Bad.the-variants.{Id, Size, Value}
@@ -28,8 +28,8 @@ use Rattle.gsb.specs.declared.Walked.{Walked}
 use Rattle.gsb.specs.declared.Walked.the-variants.{Done, Stopped}
 use Rattle.gsb.specs.Walk.{countOf, idAt, sizeAt, nextAt, offsetAt, badLength, judged, firstBad}
 use Rattle.gsb.specs.Message.{elementBytes, elementsBytes, message}
-use Rattle.gsb.proofs.Judged.{judged-good}
-use Rattle.gsb.proofs.Walks.{offset-start, offset-next}
+use Rattle.gsb.proofs.Judged.{judged-id, judged-size, judged-value, judged-good}
+use Rattle.gsb.proofs.Walks.{walk-end, walk-good, walk-bad, offset-start, offset-next, first-start}
 use Rattle.gsb.proofs.First.{accepted-exactly}
 use Rattle.gsb.proofs.Messages.{length-element, element-parts, elements-nil, elements-parts, elements-append, message-parts, length-more, length-message}
 
@@ -227,3 +227,106 @@ module _ (es : List (ℕ × List ℕ)) (b : List ℕ) (w : Wire es) (s : Begins 
     -- no value of a run input is bad
     pub input-good : k .usage ≡ RunInput → firstBad k b ≡ Done
     input-good u = message-good (λ i h. value-run k (idIn es i) b (offsetAt b i + 4) u (permitted i h))
+
+-- ---- no elements
+
+none-good : (k : Context) (b : List ℕ) → countOf b ≡ 0 → firstBad k b ≡ Done
+none-good k b c = first-start k b 0 (sym c) ∙ walk-end (judged k b) 0 0 4 (omega arith)
+
+digits-none : digits 4 0 ≡ zeros 4
+unfolding digits zeros
+digits-none = refl
+
+-- the first four bytes are zero
+module _ (b : List ℕ) (z : bytesAt b 0 4 ≡ zeros 4) where
+  pub zero-count : countOf b ≡ 0
+  zero-count = sym (be-part b 0 4 0 4 (omega arith)) ∙ ap (λ (x : List ℕ). be x 0 4) (z ∙ sym digits-none) ∙ be-of-digits 4 0
+
+  pub message-zero : (k : Context) → (countOf b ≡ 0) × (firstBad k b ≡ Done)
+  message-zero k = (zero-count, none-good k b zero-count)
+
+getD-zeros : (n i : ℕ) → i < n → getD (zeros n) i 0 ≡ 0
+unfolding zeros
+getD-zeros n i h = getD-replicate n i 0 0 h
+
+-- the first n of m bytes of zero
+pub zeros-first : (m n : ℕ) → n ≤ m → bytesAt (zeros m) 0 n ≡ zeros n
+zeros-first m n h =
+    let l : length (bytesAt (zeros m) 0 n) ≡ n = length-bytesAt (zeros m) 0 n (omega (arith, length-zeros m)) in
+    ext-getD 0 (bytesAt (zeros m) 0 n) (zeros n) (l ∙ sym (length-zeros n))
+    (λ i c. let k : i < n = omega arith in
+    getD-bytesAt (zeros m) 0 n i k ∙ getD-zeros m (0 + i) (omega arith) ∙ sym (getD-zeros n i k))
+
+pub zeros-count : (n : ℕ) → 4 ≤ n → countOf (zeros n) ≡ 0
+zeros-count n h = zero-count (zeros n) (zeros-first n 4 h)
+
+pub zeros-good : (k : Context) (n : ℕ) → 4 ≤ n → firstBad k (zeros n) ≡ Done
+zeros-good k n h = message-zero (zeros n) (zeros-first n 4 h) k .1
+
+-- ---- one element
+
+pub one-length : (id : ℕ) (v : List ℕ) → length (message ((id, v) ∷ [])) ≡ 8 + length v
+one-length id v = length-message ((id, v) ∷ []) ∙ ap (λ (x : List ℕ). 4 + length x) (elements-parts [] id v ∙ ap (λ (x : List ℕ). elementBytes id v ++ x) elements-nil ∙ append-nil (elementBytes id v)) ∙ omega (arith, length-element id v)
+
+pub one-bad-length : (id : ℕ) (v : List ℕ) → badLength (message ((id, v) ∷ [])) ≡ ltb 65528 (length v)
+one-bad-length id v = ap (λ (n : ℕ). ltb n 4 || ltb 65536 n) (one-length id v) ∙ ap (λ (t : Bool). t || ltb 65536 (8 + length v)) short ∙ over (decLt 65528 (length v))
+  where
+    short : ltb (8 + length v) 4 ≡ false
+    short = let h : 4 ≤ 8 + length v = omega arith in le-ltb _ _ h
+
+    over : Dec (65528 < length v) → ltb 65536 (8 + length v) ≡ ltb 65528 (length v)
+    over (yes h) = let l : 65536 < 8 + length v = omega arith in lt-ltb _ _ l ∙ sym (lt-ltb _ _ h)
+    over (no h) =
+        let l : 8 + length v ≤ 65536 = omega arith in
+        let m : length v ≤ 65528 = omega arith in
+        le-ltb _ _ l ∙ sym (le-ltb _ _ m)
+
+abbrev pub firstPlace : Place
+firstPlace = record { index = 0; offset = 4 }
+
+module _ (k : Context) (b : List ℕ) (id : ℕ) (v : List ℕ) (h : id < 2 ^ 16) (l : length v < 2 ^ 16) (s : Begins b (message ((id, v) ∷ []))) where
+  one-count : countOf b ≡ 1
+  one-count = message-count ((id, v) ∷ []) b (wire-one id v h l) s
+
+  one-faulty : (bad : Bad) → Faulty bad ≡ judged k b 4 → firstBad k b ≡ Stopped bad firstPlace
+  one-faulty bad e = first-start k b 1 (sym one-count) ∙ walk-bad (judged k b) 1 0 4 bad (omega arith) (sym e)
+
+  one-good : (next : ℕ) → Good next ≡ judged k b 4 → firstBad k b ≡ Done
+  one-good next e = first-start k b 1 (sym one-count) ∙ walk-good (judged k b) 1 0 4 next (omega arith) (sym e) ∙ walk-end (judged k b) 1 (0 + 1) next (omega arith)
+
+  -- the buffer may be longer than the message
+  pub one-judged : firstBad k b
+      ≡ cond (not (permits k id (kindOf id))) (Stopped Id firstPlace)
+      (cond (not (sizeFits (kindOf id) (length v))) (Stopped Size firstPlace)
+      (cond (not (goodValue k id b 8)) (Stopped Value firstPlace) Done))
+  one-judged = go (permits k id (kindOf id)) (sizeFits (kindOf id) (length v)) (goodValue k id b 8) refl refl refl
+    where
+      wire : Wire ((id, v) ∷ [])
+      wire = wire-one id v h l
+
+      start : offsetAt b 0 ≡ 4
+      start = sym (offset-start b)
+
+      the-id : id ≡ idAt b 4
+      the-id = sym (ap (idAt b) (sym start) ∙ message-id ((id, v) ∷ []) b wire s 0 (omega arith))
+
+      the-size : length v ≡ sizeAt b 4
+      the-size = sym (ap (sizeAt b) (sym start) ∙ message-size ((id, v) ∷ []) b wire s 0 (omega arith))
+
+      room : 4 + 4 + length v ≤ length b
+      room = omega (arith, s .within, one-length id v)
+
+      go : (p q r : Bool) → p ≡ permits k id (kindOf id) → q ≡ sizeFits (kindOf id) (length v) → r ≡ goodValue k id b 8
+          → firstBad k b ≡ cond (not p) (Stopped Id firstPlace) (cond (not q) (Stopped Size firstPlace) (cond (not r) (Stopped Value firstPlace) Done))
+      go false q r e f g = one-faulty Id (judged-id k b 4 id (length v) (kindOf id) (omega (arith, room)) the-id the-size refl false e refl)
+      go true false r e f g = one-faulty Size (judged-size k b 4 id (length v) (kindOf id) (omega (arith, room)) the-id the-size refl true e refl false f refl)
+      go true true false e f g = one-faulty Value (judged-value k b 4 id (length v) (kindOf id) (omega (arith, room)) the-id the-size refl true e refl true f refl (omega (arith, room)) false g refl)
+      go true true true e f g = one-good (4 + 4 + length v) (judged-good k b 4 id (length v) (kindOf id) (omega (arith, room)) the-id the-size refl true e refl true f refl (omega (arith, room)) true g refl)
+
+-- the message itself
+pub one-element : (k : Context) (id : ℕ) (v : List ℕ) → id < 2 ^ 16 → length v < 2 ^ 16
+    → firstBad k (message ((id, v) ∷ []))
+    ≡ cond (not (permits k id (kindOf id))) (Stopped Id firstPlace)
+    (cond (not (sizeFits (kindOf id) (length v))) (Stopped Size firstPlace)
+    (cond (not (goodValue k id (message ((id, v) ∷ [])) 8)) (Stopped Value firstPlace) Done))
+one-element k id v h l = one-judged k (message ((id, v) ∷ [])) id v h l (begins-self (message ((id, v) ∷ [])))
