@@ -1,13 +1,13 @@
 -- The round-trip law: a buffer that begins with a message is read as the elements that the message was made of. Assumes nothing.
-use mathlib.Core.Path.{_≡_, refl, sym, ap, ap₂, _∙_, subst}
+use mathlib.Core.Path.{_≡_, refl, sym, ap, _∙_, subst}
 use mathlib.Core.Bool.{Bool, true, false, cond, not, _||_}
 use mathlib.Core.List.{List, [], _∷_, _++_, append-nil}
-use Prim.Native.Nat.{ℕ, zero, suc, _+_, _-_, _^_, _≤_, _<_}
+use Prim.Native.Nat.{ℕ, zero, suc, _+_, _^_, _≤_, _<_}
 use native.Mathlib.Nat.{mod-eq-of-lt}
 use native.Mathlib.Numerals.{add-one}
 use native.Mathlib.Decide.{decLt}
 use native.Mathlib.Omega.{arith}
-use lib.Dec.{ltb}
+use lib.Dec.{ltb, ltb→lt}
 use lib.ListN.{length, getD, take, drop, length-append, getD-replicate}
 use lib.Seq.{take-suc, take-length, take-append-seam, drop-append-seam, split-at, ext-getD}
 use borrow.Author.Tests.{lt-ltb, le-ltb}
@@ -19,12 +19,13 @@ use Rattle.answer.specs.declared.Bad.the-variants.{Id, Size, Value}
 use Rattle.answer.specs.declared.Place.{Place}
 use Rattle.elements.specs.declared.Usage.the-variants.{RunInput}
 use Rattle.elements.specs.declared.Context.{Context}
-use Rattle.elements.specs.Table.{kindOf}
+use Rattle.elements.specs.declared.Entry.{Entry}
+use Rattle.elements.specs.declared.Kind.the-variants.{Listed}
+use Rattle.elements.specs.Table.{table, kindOf}
 use Rattle.elements.specs.Rules.{permits, sizeFits, goodValue}
+use Rattle.elements.proofs.Table.{listed-rule, size-bound}
 use Rattle.elements.proofs.Rules.{value-run}
-use Rattle.gsb.specs.declared.Verdict.{Verdict}
 use Rattle.gsb.specs.declared.Verdict.the-variants.{Good, Faulty}
-use Rattle.gsb.specs.declared.Walked.{Walked}
 use Rattle.gsb.specs.declared.Walked.the-variants.{Done, Stopped}
 use Rattle.gsb.specs.Walk.{countOf, idAt, sizeAt, nextAt, offsetAt, badLength, judged, firstBad}
 use Rattle.gsb.specs.Message.{elementBytes, elementsBytes, message}
@@ -71,23 +72,23 @@ module _ (b : List ℕ) (at : ℕ) (v w : List ℕ) (s : Stands b at (v ++ w)) w
   stands-left = record {
     within = omega (arith, s .within, long);
     same =
-      (let z : at + 0 ≡ at = omega arith in
-      ap (λ (i : ℕ). bytesAt b i (length v)) (sym z)
-      ∙ sym (part-of-part b at (length (v ++ w)) 0 (length v) (omega (arith, long)))
-      ∙ ap (λ (x : List ℕ). bytesAt x 0 (length v)) (s .same)
-      ∙ sym (part-lent (v ++ w) 0 (length v))
-      ∙ take-append-seam v w);
+        (let z : at + 0 ≡ at = omega arith in
+        ap (λ (i : ℕ). bytesAt b i (length v)) (sym z)
+        ∙ sym (part-of-part b at (length (v ++ w)) 0 (length v) (omega (arith, long)))
+        ∙ ap (λ (x : List ℕ). bytesAt x 0 (length v)) (s .same)
+        ∙ sym (part-lent (v ++ w) 0 (length v))
+        ∙ take-append-seam v w);
   }
 
   stands-right : Stands b (at + length v) w
   stands-right = record {
     within = omega (arith, s .within, long);
     same =
-      (sym (part-of-part b at (length (v ++ w)) (length v) (length w) (omega (arith, long)))
-      ∙ ap (λ (x : List ℕ). bytesAt x (length v) (length w)) (s .same)
-      ∙ sym (part-lent (v ++ w) (length v) (length w))
-      ∙ ap (λ (x : List ℕ). take (length w) x) (drop-append-seam v w)
-      ∙ take-length w);
+        (sym (part-of-part b at (length (v ++ w)) (length v) (length w) (omega (arith, long)))
+        ∙ ap (λ (x : List ℕ). bytesAt x (length v) (length w)) (s .same)
+        ∙ sym (part-lent (v ++ w) (length v) (length w))
+        ∙ ap (λ (x : List ℕ). take (length w) x) (drop-append-seam v w)
+        ∙ take-length w);
   }
 
 -- a number that stands in a buffer is read
@@ -153,6 +154,14 @@ wire-cons id v es h l c w = record { count = c; ids = ids; sizes = sizes }
 
 pub wire-one : (id : ℕ) (v : List ℕ) → id < 2 ^ 16 → length v < 2 ^ 16 → Wire ((id, v) ∷ [])
 wire-one id v h l = wire-cons id v [] h l (omega arith) wire-nil
+
+-- a listed element with a value of its size fits
+listed-id : (id : ℕ) (x : Entry) → kindOf id ≡ Listed x → id < 2 ^ 16
+unfolding table
+listed-id id x e = ltb→lt _ _ (listed-rule (λ (i : ℕ). ltb i 65536) tt id x e)
+
+pub listed-fits : (id : ℕ) (x : Entry) (v : List ℕ) → kindOf id ≡ Listed x → length v ≡ x .size → (id < 2 ^ 16) × (length v < 2 ^ 16)
+listed-fits id x v e z = (listed-id id x e, omega (arith, z, size-bound id x e .1))
 
 module _ (es : List (ℕ × List ℕ)) (b : List ℕ) (w : Wire es) (s : Begins b (message es)) where
   halves : Stands b 0 (digits 4 (length es) ++ elementsBytes es)
@@ -266,10 +275,14 @@ zeros-good k n h = message-zero (zeros n) (zeros-first n 4 h) k .1
 -- ---- one element
 
 pub one-length : (id : ℕ) (v : List ℕ) → length (message ((id, v) ∷ [])) ≡ 8 + length v
-one-length id v = length-message ((id, v) ∷ []) ∙ ap (λ (x : List ℕ). 4 + length x) (elements-parts [] id v ∙ ap (λ (x : List ℕ). elementBytes id v ++ x) elements-nil ∙ append-nil (elementBytes id v)) ∙ omega (arith, length-element id v)
+one-length id v =
+    length-message ((id, v) ∷ [])
+    ∙ ap (λ (x : List ℕ). 4 + length x) (elements-parts [] id v ∙ ap (λ (x : List ℕ). elementBytes id v ++ x) elements-nil ∙ append-nil (elementBytes id v))
+    ∙ omega (arith, length-element id v)
 
 pub one-bad-length : (id : ℕ) (v : List ℕ) → badLength (message ((id, v) ∷ [])) ≡ ltb 65528 (length v)
-one-bad-length id v = ap (λ (n : ℕ). ltb n 4 || ltb 65536 n) (one-length id v) ∙ ap (λ (t : Bool). t || ltb 65536 (8 + length v)) short ∙ over (decLt 65528 (length v))
+one-bad-length id v =
+    ap (λ (n : ℕ). ltb n 4 || ltb 65536 n) (one-length id v) ∙ ap (λ (t : Bool). t || ltb 65536 (8 + length v)) short ∙ over (decLt 65528 (length v))
   where
     short : ltb (8 + length v) 4 ≡ false
     short = let h : 4 ≤ 8 + length v = omega arith in le-ltb _ _ h
@@ -292,7 +305,9 @@ module _ (k : Context) (b : List ℕ) (id : ℕ) (v : List ℕ) (h : id < 2 ^ 16
   one-faulty bad e = first-start k b 1 (sym one-count) ∙ walk-bad (judged k b) 1 0 4 bad (omega arith) (sym e)
 
   one-good : (next : ℕ) → Good next ≡ judged k b 4 → firstBad k b ≡ Done
-  one-good next e = first-start k b 1 (sym one-count) ∙ walk-good (judged k b) 1 0 4 next (omega arith) (sym e) ∙ walk-end (judged k b) 1 (0 + 1) next (omega arith)
+  one-good next e =
+      first-start k b 1 (sym one-count) ∙ walk-good (judged k b) 1 0 4 next (omega arith) (sym e)
+      ∙ walk-end (judged k b) 1 (0 + 1) next (omega arith)
 
   -- the buffer may be longer than the message
   pub one-judged : firstBad k b

@@ -74,6 +74,11 @@ module _ (base : ℕ) (s b : List ℕ) (ready : AllReady base b (length s)) wher
         q ∙ ap (λ (k : Kind). fillAs k base s at c) (ap kindOf id-kept) ∙ ap₂ (λ (x : ℕ) (y : List ℕ). fillAs (kindOf (idAt b (offsetAt b i))) base s x y) o e
         ∙ ap (filled base s b) (sym (add-one i))
 
+-- one element more, whatever it is
+pub filled-more : (base : ℕ) (s b : List ℕ) (i : ℕ) → filled base s b (i + 1) ≡ fillAs (kindOf (idAt b (offsetAt b i))) base s (offsetAt b i) (filled base s b i)
+unfolding filled
+filled-more base s b i = ap (filled base s b) (add-one i)
+
 pub fill-start : (base : ℕ) (s b : List ℕ) → b ≡ filled base s b 0
 unfolding filled
 fill-start base s b = refl

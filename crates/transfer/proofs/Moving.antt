@@ -84,6 +84,10 @@ module _ (kind : Kind) (base : ℕ) (s : List ℕ) (at : ℕ) (b : List ℕ) whe
   unfolding fillAs
   fill-nop e = sym (ap (λ (k : Kind). fillAs k base s at b) e)
 
+  pub fill-entry : (x : Entry) → kind ≡ Listed x → fillAs kind base s at b ≡ put b (at + 4) (readFrom (x .source) base (x .size) s)
+  unfolding fillAs
+  fill-entry x e = ap (λ (k : Kind). fillAs k base s at b) e
+
   pub fill-listed : (x : Entry) (size len : ℕ) (t : List ℕ) → Moves kind base size len → kind ≡ Listed x → t ≡ put b (at + 4) (readFrom (x .source) base size s) → t ≡ fillAs kind base s at b
   unfolding fillAs
   fill-listed x size len t m e h =
