@@ -116,6 +116,13 @@ all-among (x ∷ xs) exit e = go (eqb (x .0) exit) (both (rowFits (x .1)) (rowsF
     go true p ih = fits-row (x .1) (p .0)
     go false p ih = ih (p .1)
 
+-- no output is longer than the least that can be registered
+pub output-short : (exit : ℕ) → rowBytes (returned exit) ≤ 124
+output-short exit = omega (arith, all-among exits exit exits-fit .light)
+
+pub returned-few : (exit : ℕ) → length (returned exit) ≤ 10
+returned-few exit = all-among exits exit exits-fit .few
+
 pub length-output : (base : ℕ) (s : List ℕ) (exit : ℕ) → base + 1820 ≤ length s → length (outputOf base s exit) ≡ rowBytes (returned exit)
 unfolding outputOf
 length-output base s exit room =

@@ -87,7 +87,7 @@ fit-at (id ∷ ids) zero e h = fit id (both (idFits id) (allFit ids) e .0)
 fit-at (id ∷ ids) (suc j) e h = fit-at ids j (both (idFits id) (allFit ids) e .1) (le-of-suc-le-suc h)
 
 -- ---- prefixes of a row
-weigh-append : (xs ys : List ℕ) → weigh (xs ++ ys) ≡ weigh xs + weigh ys
+pub weigh-append : (xs ys : List ℕ) → weigh (xs ++ ys) ≡ weigh xs + weigh ys
 unfolding weigh
 weigh-append [] ys = omega arith
 weigh-append (x ∷ xs) ys = let h = weigh-append xs ys in omega (arith, h)
@@ -103,7 +103,7 @@ weigh-prefix [] j h = absurd (not-suc-le-zero h)
 weigh-prefix (id ∷ ids) zero h = omega arith
 weigh-prefix (id ∷ ids) (suc j) h = let k = weigh-prefix ids j (le-of-suc-le-suc h) in omega (arith, k)
 
-valued-append : (base : ℕ) (s xs ys : List ℕ) → valued base s (xs ++ ys) ≡ valued base s xs ++ valued base s ys
+pub valued-append : (base : ℕ) (s xs ys : List ℕ) → valued base s (xs ++ ys) ≡ valued base s xs ++ valued base s ys
 unfolding valued
 valued-append base s [] ys = refl
 valued-append base s (x ∷ xs) ys = ap (λ (z : List (ℕ × List ℕ)). (x, bytesAt s (base + elementOf x .position) (elementOf x .size)) ∷ z) (valued-append base s xs ys)

@@ -1,7 +1,7 @@
 -- The round-trip law: a buffer that begins with a message is read as the elements that the message was made of. Assumes nothing.
-use mathlib.Core.Path.{_≡_, refl, sym, ap, _∙_, subst}
+use mathlib.Core.Path.{_≡_, refl, sym, ap, ap₂, _∙_, subst}
 use mathlib.Core.Bool.{Bool, true, false, cond, not, _||_}
-use mathlib.Core.List.{List, [], _∷_, _++_, append-nil}
+use mathlib.Core.List.{List, [], _∷_, _++_, append-nil, append-assoc}
 use Prim.Native.Nat.{ℕ, zero, suc, _+_, _^_, _≤_, _<_}
 use native.Mathlib.Nat.{mod-eq-of-lt}
 use native.Mathlib.Numerals.{add-one}
@@ -9,7 +9,7 @@ use native.Mathlib.Decide.{decLt}
 use native.Mathlib.Omega.{arith}
 use lib.Dec.{ltb, ltb→lt}
 use lib.ListN.{length, getD, take, drop, length-append, getD-replicate}
-use lib.Seq.{take-suc, take-length, take-append-seam, drop-append-seam, split-at, ext-getD}
+use lib.Seq.{take-suc, take-length, take-append-seam, drop-append-seam, split-at, drop-at, ext-getD}
 use borrow.Author.Tests.{lt-ltb, le-ltb}
 use Rattle.octets.specs.Bytes.{bytesAt, put, be, digits, zeros}
 use Rattle.octets.proofs.Bytes.{length-put, length-bytesAt, part-lent, part-of-part, read-back, whole, length-zeros, getD-bytesAt}
@@ -293,6 +293,21 @@ one-bad-length id v =
         let l : 8 + length v ≤ 65536 = omega arith in
         let m : length v ≤ 65528 = omega arith in
         le-ltb _ _ l ∙ sym (le-ltb _ _ m)
+
+-- the value stands behind the count and the header
+pub one-value : (id : ℕ) (v : List ℕ) → bytesAt (message ((id, v) ∷ [])) 8 (length v) ≡ v
+one-value id v =
+    let n : length (digits 4 1 ++ (digits 2 id ++ digits 2 (length v))) ≡ 8
+    = length-append (digits 4 1) (digits 2 id ++ digits 2 (length v))
+    ∙ ap₂ (λ (a b : ℕ). a + b) (length-digits 4 1) (length-append (digits 2 id) (digits 2 (length v)) ∙ ap₂ (λ (a b : ℕ). a + b) (length-digits 2 id) (length-digits 2 (length v))) in
+    ap (λ (b : List ℕ). bytesAt b 8 (length v)) parts ∙ sym (part-lent ((digits 4 1 ++ (digits 2 id ++ digits 2 (length v))) ++ v) 8 (length v))
+    ∙ ap (take (length v)) (drop-at (digits 4 1 ++ (digits 2 id ++ digits 2 (length v))) v 8 n) ∙ take-length v
+  where
+    parts : message ((id, v) ∷ []) ≡ (digits 4 1 ++ (digits 2 id ++ digits 2 (length v))) ++ v
+    parts =
+        message-parts ((id, v) ∷ [])
+        ∙ ap (λ (x : List ℕ). digits 4 1 ++ x) (elements-parts [] id v ∙ ap (λ (x : List ℕ). elementBytes id v ++ x) elements-nil ∙ append-nil (elementBytes id v) ∙ element-parts id v ∙ sym (append-assoc (digits 2 id) (digits 2 (length v)) v))
+        ∙ sym (append-assoc (digits 4 1) (digits 2 id ++ digits 2 (length v)) v)
 
 abbrev pub firstPlace : Place
 firstPlace = record { index = 0; offset = 4 }

@@ -4,3 +4,4 @@ mod Answers
 pub mod Targets
 pub mod Buffers
 pub mod Runs
+pub mod Elements

@@ -40,7 +40,7 @@ use Rattle.l0.specs.declared.Spot.{Spot}
 use Rattle.l0.specs.declared.Spot.the-variants.{Off, Slot}
 use Rattle.l0.specs.Refusals.{Outcome, success, refusal, refuse, decide, judgement}
 use Rattle.l0.specs.State.{targetTests, baseOf, targetOf, contextOf, isStopped, faultOf, badElement}
-use Rattle.l0.specs.Run.{runBits, inputSize, outputSize, lentTests, lentGood, effectFault, exitTests, exitGood, spotTests, spotOf, inputOf, contentTests, contentGood, runTests, judgedRun, ranStore, ran, runVcpu}
+use Rattle.l0.specs.Run.{runBits, inputSize, outputSize, lentTests, lentGood, effectFault, exitTests, exitGood, spotTests, spotOf, inputOf, contentTests, contentGood, runTests, judgedRun, cachedTests, cachedGood, ranStore, ran, runVcpu}
 use Rattle.l0.proofs.Judging.{begin-refused, begin-admitted, all-refused, all-admitted, was-refused, was-admitted, Passed, judged-passed}
 use Rattle.l0.proofs.Targets.{target-judged, target-found}
 use Rattle.l0.proofs.Buffers.{walked-as, walk-done, ready-as}
@@ -230,6 +230,23 @@ module _ (l : Layout) (so : Sound l) (s : List ℕ) (flags guest vcpu need input
 
   pub spot-part : (input part : List ℕ) → length input ≡ inputLength → part ≡ bytesAt input 0 n → 4 ≤ length part
   spot-part input part e p = omega (arith, ap length p, length-bytesAt input 0 n (omega (arith, spot-is .lent, e)), spot-is .some)
+
+-- ---- the answers of `judge_cached`
+module _ (l : Layout) (e : l ≡ small) (s : List ℕ) (flags guest vcpu need inputLength outputLength : ℕ) (effect : List ℕ) (exit : ℕ) (a : Spot) (q : a ≡ spotOf l s flags guest vcpu need inputLength outputLength) where
+  cached-as : judgement (cachedTests l s flags guest vcpu need inputLength outputLength effect exit) ≡ cachedGood small s flags guest vcpu need inputLength outputLength effect exit
+  unfolding cachedGood
+  cached-as = ap (λ (k : Layout). judgement (cachedTests k s flags guest vcpu need inputLength outputLength effect exit)) e
+
+  pub cached-off : (f : Fault) → a ≡ Off f → Refused f ≡ cachedGood small s flags guest vcpu need inputLength outputLength effect exit
+  unfolding spotOf
+  cached-off f h =
+      let w = was-refused Off off-same (Slot (baseOf l s false guest vcpu) (inputSize s (baseOf l s false guest vcpu))) off-not (spotTests l s flags guest vcpu need inputLength outputLength) f (sym q ∙ h) in
+      sym (begin-refused Refused Admitted (spotTests l s flags guest vcpu need inputLength outputLength) (exitTests l s effect exit) f w) ∙ cached-as
+
+  pub cached-exit : (so : Sound l) (base n : ℕ) (v : Admission) → a ≡ Slot base n → v ≡ exitGood l s effect exit → v ≡ cachedGood small s flags guest vcpu need inputLength outputLength effect exit
+  unfolding exitGood
+  cached-exit so base n v h w =
+      w ∙ sym (begin-admitted Refused Admitted (spotTests l s flags guest vcpu need inputLength outputLength) (exitTests l s effect exit) (found l so s flags guest vcpu need inputLength outputLength a q base n h .0)) ∙ cached-as
 
 -- ---- the answers of `judge_run`
 module _ (l : Layout) (s : List ℕ) (flags guest vcpu : ℕ) (input : List ℕ) (outputLength : ℕ) (effect : List ℕ) (exit : ℕ) (a : Spot) (q : a ≡ spotOf l s flags guest vcpu 0 (length input) outputLength) where

@@ -96,6 +96,15 @@ judgedRun l s flags guest vcpu input outputLength effect exit =
     firstOf Off (runTests l s flags guest vcpu input outputLength effect exit)
     (Slot (baseOf l s false guest vcpu) (inputSize s (baseOf l s false guest vcpu)))
 
+-- all but the input's elements, for a caller that writes `need` bytes of input once the rest is judged
+abbrev pub cachedTests : Layout → List ℕ → ℕ → ℕ → ℕ → ℕ → ℕ → ℕ → List ℕ → ℕ → List (Bool × Fault)
+cachedTests l s flags guest vcpu need inputLength outputLength effect exit =
+    spotTests l s flags guest vcpu need inputLength outputLength ++ exitTests l s effect exit
+
+unfoldable pub cachedGood : Layout → List ℕ → ℕ → ℕ → ℕ → ℕ → ℕ → ℕ → List ℕ → ℕ → Admission
+cachedGood l s flags guest vcpu need inputLength outputLength effect exit =
+    judgement (cachedTests l s flags guest vcpu need inputLength outputLength effect exit)
+
 -- "Input is applied, then the effect"
 unfoldable pub ranStore : ℕ → List ℕ → List ℕ → List ℕ → List ℕ
 ranStore base input effect s = applied base effect (countOf effect) (applied base input (countOf input) s)

@@ -13,8 +13,9 @@ use Rattle.elements.specs.declared.Context.{Context}
 use Rattle.gsb.specs.declared.Walked.{Walked}
 use Rattle.gsb.specs.declared.Walked.the-variants.{Done, Stopped}
 use Rattle.gsb.specs.Walk.{countOf, badLength, firstBad}
+use Rattle.gsb.specs.Message.{message}
 use Rattle.store.specs.declared.Layout.{Layout}
-use Rattle.store.specs.Layout.{guestBytes, slotBytes, guestAt, slotAt}
+use Rattle.store.specs.Layout.{small, guestBytes, slotBytes, guestAt, slotAt}
 use Rattle.store.specs.Header.{header, capabilitiesOf, slotOf}
 use Rattle.transfer.specs.Transfer.{applied, filled}
 use Rattle.l0.specs.declared.Admission.{Admission}
@@ -86,6 +87,10 @@ getState l s flags guest vcpu b =
     decide s b
     (targetTests l s bit0 flags (hasBit0 flags) guest vcpu ++ bufferTests l s (getUse (hasBit0 flags)) b)
     (fillWith s (baseOf l s (hasBit0 flags) guest vcpu) b)
+
+-- of one thread element, in a buffer that holds it alone
+abbrev pub gotElement : List ℕ → ℕ → ℕ → ℕ → List ℕ → Outcome
+gotElement s guest vcpu id v = getState small s 0 guest vcpu (message ((id, v) ∷ []))
 
 -- how many bytes a use's values take, from their start: what the inner functions require of a store of len bytes
 abbrev pub bytesFor : Usage → ℕ

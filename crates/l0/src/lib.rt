@@ -14,7 +14,9 @@ pub use clock::guest_clock;
 pub use guests::create_guest;
 pub use guests::create_vcpu;
 pub use guests::delete_guest;
+pub use run::judge_cached;
 pub use run::run_vcpu;
+pub use state::get_element;
 pub use state::get_state;
 pub use state::set_state;
 

@@ -34,7 +34,7 @@ ghost use Rattle.exits.specs.Exits.{known};
 ghost use Rattle.transfer.specs.Transfer.{AllReady};
 ghost use Rattle.store.specs.Layout.{Sound, small, slotBytes};
 ghost use Rattle.l0.specs.Refusals.{Outcome, judgement};
-ghost use Rattle.l0.specs.Run.{lentGood, exitGood, contentGood, spotOf, judgedRun, ran, runVcpu};
+ghost use Rattle.l0.specs.Run.{lentGood, exitGood, contentGood, spotOf, judgedRun, cachedGood, ran, runVcpu};
 
 // 0x0C00 and 0x0C01 stand first in a slot's values; their sizes are their second eight bytes.
 const INPUT_SIZE: usize = 8;
@@ -164,6 +164,37 @@ fn judge_run(
                 Admission::Admitted => Spot::Slot(base, size),
             }
         }
+    }
+}
+
+// All the tests of a run but those of the input's elements: the L1 cache writes these itself, `need` bytes, once the rest is good.
+pub fn judge_cached(
+    store: &[u8],
+    flags: u64,
+    guest: u64,
+    vcpu: u64,
+    need: usize,
+    input_len: usize,
+    output_len: usize,
+    effect: &[u8],
+    exit: u64,
+) -> Admission
+    ensures { λ r. ⌜ r ≡ cachedGood small (now (store .entry)) flags guest vcpu need «input_len» «output_len» (now (effect .entry)) exit ⌝ }
+{
+    let l = small_layout();
+    let spot = spot_of(
+        store,
+        l,
+        flags,
+        guest as usize,
+        vcpu as usize,
+        need,
+        input_len,
+        output_len,
+    );
+    match spot {
+        Spot::Off(fault) => Admission::Refused(fault),
+        Spot::Slot(_, _) => judge_exit(store, l, effect, exit),
     }
 }
 

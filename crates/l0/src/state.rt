@@ -8,9 +8,12 @@ use answer::refusal;
 use answer::success;
 use elements::Context;
 use elements::Usage;
+use elements::number_of;
+use elements::thread_element;
 use gsb::Walked;
 use gsb::bad_length;
 use gsb::first_bad;
+use octets::copy;
 use store::Layout;
 use store::capabilities_of;
 use store::guest_at;
@@ -21,12 +24,17 @@ use store::small_layout;
 use transfer::apply;
 use transfer::fill;
 ghost use mathlib.Core.Path.{_≡_};
+ghost use mathlib.Core.Bool.{true};
 ghost use mathlib.Core.List.{[]};
-ghost use Prim.Native.Nat.{_+_, _≤_};
+ghost use Prim.Native.Nat.{_+_, _≤_, _<_};
 ghost use lib.ListN.{length};
+ghost use Rattle.octets.specs.Bytes.{bytesAt};
+ghost use Rattle.elements.specs.declared.Usage.the-variants.{ThreadGet};
+ghost use Rattle.elements.specs.Table.{kindOf, numberOf, threadElement};
+ghost use Rattle.elements.specs.Rules.{permits};
 ghost use Rattle.store.specs.Layout.{Sound, small};
 ghost use Rattle.l0.specs.Refusals.{Outcome, hasBit0};
-ghost use Rattle.l0.specs.State.{targetOf, bufferGood, setUse, setAt, setState, getUse, getAt, getState, bytesFor, Held};
+ghost use Rattle.l0.specs.State.{targetOf, bufferGood, setUse, setAt, setState, getUse, getAt, getState, gotElement, bytesFor, Held};
 
 // Guest-wide.
 const BIT_0: u64 = 0x8000_0000_0000_0000;
@@ -153,5 +161,23 @@ pub fn get_state(store: &[u8], flags: u64, guest: u64, vcpu: u64, buffer: &mut [
     match target {
         Target::Turned(fault) => refusal(fault),
         Target::At(base) => get_at(store, l, base, get_use(wide), buffer),
+    }
+}
+
+// H_GUEST_GET_STATE with a buffer of one element, for the L1 cache: the value comes straight from the slot.
+pub fn get_element(store: &[u8], guest: u64, vcpu: u64, id: u16, value: &mut [u8]) -> Answer
+    requires { ⌜ (permits (record { usage = ThreadGet; capabilities = 0 }) id (kindOf id) ≡ true) × (0 < id) × (length (now value) ≡ threadElement (numberOf id) .size) ⌝ }
+    ensures { λ r. ⌜ r ≡ gotElement (now (store .entry)) guest vcpu id (now (value .entry)) .answer ⌝ }
+    ensures { λ r. ⌜ now (value .exit) ≡ bytesAt (gotElement (now (store .entry)) guest vcpu id (now (value .entry)) .buffer) 8 (length (now (value .entry))) ⌝ }
+{
+    let l = small_layout();
+    let target = target_of(store, l, BIT_0, 0, false, guest as usize, vcpu as usize);
+    match target {
+        Target::Turned(fault) => refusal(fault),
+        Target::At(base) => {
+            let x = thread_element(number_of(id));
+            copy(store, base + x.position, value, 0, x.size);
+            success(0)
+        }
     }
 }

@@ -50,7 +50,7 @@ bad-told Id e = omega arith
 bad-told Size e = omega arith
 bad-told Value e = omega arith
 
-none-told : (c : Name) (f : Fault) (v : ℕ) → told c f v .r3 ≡ 0 → f ≡ None
+pub none-told : (c : Name) (f : Fault) (v : ℕ) → told c f v .r3 ≡ 0 → f ≡ None
 none-told c None v e = refl
 none-told c Store v e = absurd (omega arith)
 none-told c (Flag bit) v e = absurd (omega arith)

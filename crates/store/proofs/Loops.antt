@@ -10,7 +10,7 @@ use Rattle.store.specs.Search.{every, first}
 use Rattle.store.specs.Header.{word, live, holds, lacks, alone, slotGood, wordsGood, slotHolding, isDead, freeGuest}
 
 module _ (p : ℕ → Bool) (n i : ℕ) where
-  every-end : n ≤ i → every p (n - i) i ≡ true
+  pub every-end : n ≤ i → every p (n - i) i ≡ true
   unfolding every
   every-end h = let e : n - i ≡ 0 = omega arith in ap (λ (m : ℕ). every p m i) e
 
@@ -18,10 +18,10 @@ module _ (p : ℕ → Bool) (n i : ℕ) where
   unfolding every
   every-turn h = let e : n - i ≡ suc (n - (i + 1)) = omega arith in ap (λ (m : ℕ). every p m i) e
 
-  every-past : i < n → p i ≡ true → every p (n - i) i ≡ every p (n - (i + 1)) (i + 1)
+  pub every-past : i < n → p i ≡ true → every p (n - i) i ≡ every p (n - (i + 1)) (i + 1)
   every-past h e = every-turn h ∙ ap (λ (b : Bool). b && every p (n - (i + 1)) (i + 1)) e
 
-  every-out : i < n → p i ≡ false → every p (n - i) i ≡ false
+  pub every-out : i < n → p i ≡ false → every p (n - i) i ≡ false
   every-out h e = every-turn h ∙ ap (λ (b : Bool). b && every p (n - (i + 1)) (i + 1)) e
 
   first-end : n ≤ i → first p (n - i) i ≡ i
