@@ -1,0 +1,90 @@
+-- What a run's input holds: the newest writes in order of ID make a message that a run takes, in 2,424 bytes at most. Assumes nothing.
+use mathlib.Core.Path.{_≡_, refl, sym, ap, ap₂, _∙_, subst}
+use mathlib.Core.Bool.{Bool, true, false}
+use mathlib.Core.List.{List, [], _∷_, _++_}
+use Prim.Native.Nat.{ℕ, zero, suc, _+_, _^_, _≤_, _<_}
+use native.Mathlib.Nat.{not-suc-le-zero, le-of-suc-le-suc}
+use native.Mathlib.Omega.{arith}
+use lib.Dec.{eqb}
+use lib.ListN.{length, getD, length-append}
+use borrow.Author.Tests.{eq-eqb}
+use Rattle.octets.specs.Bytes.{bytesAt, put}
+use Rattle.elements.specs.declared.Usage.the-variants.{RunInput}
+use Rattle.elements.specs.declared.Context.{Context}
+use Rattle.elements.specs.Table.{kindOf, numberOf, threadElement}
+use Rattle.elements.specs.Rules.{permits, sizeFits}
+use Rattle.gsb.specs.declared.Walked.the-variants.{Done}
+use Rattle.gsb.specs.Walk.{countOf, firstBad}
+use Rattle.gsb.specs.Message.{elementsBytes, message}
+use Rattle.gsb.proofs.Messages.{length-message}
+use Rattle.gsb.proofs.RoundTrip.{Begins, idIn, valueIn, Wire, wire-nil, wire-cons, listed-fits, input-good}
+use Rattle.transfer.specs.Transfer.{putAs, applied}
+use Rattle.transfer.proofs.Messages.{placeAll, place-nil, place-cons, applied-message, thread-numbered}
+use Rattle.exits.specs.Exits.{elementOf}
+use Rattle.l1.specs.Cache.{allowed, isInput}
+use Rattle.l1.specs.Agree.{newest, inOrder}
+use Rattle.l1.proofs.Cells.{Named, element-size, named-fits, named-size, allowed-as, input-named, input-allowed, weight, all-weight}
+use Rattle.l1.proofs.Writes.{Fit, Latest, none, some, latest, placed, place, back, back-newest, due-length}
+
+-- ---- the list fits as its writes do
+pub fit-append : (xs ys : List (ℕ × List ℕ)) → Fit xs → Fit ys → Fit (xs ++ ys)
+fit-append [] ys f h = h
+fit-append (x ∷ xs) ys f h = (f .0, f .1, fit-append xs ys (f .2) h)
+
+fit-latest : (id : ℕ) (es : List (ℕ × List ℕ)) → Latest id es → Fit es
+fit-latest id [] none = tt
+fit-latest id (e ∷ []) (some w a b) = (a, b, tt)
+
+pub due-fit : (ws : List (ℕ × List ℕ)) → Fit ws → (n : ℕ) → Fit (inOrder ws n)
+unfolding inOrder
+due-fit ws f zero = tt
+due-fit ws f (suc n) = fit-append (inOrder ws n) (newest ws (threadElement n .id)) (due-fit ws f n) (fit-latest (threadElement n .id) (newest ws (threadElement n .id)) (latest ws (threadElement n .id) f))
+
+latest-few : (id : ℕ) (es : List (ℕ × List ℕ)) → Latest id es → length es ≤ 1
+latest-few id [] none = omega arith
+latest-few id (e ∷ []) (some w a b) = omega arith
+
+pub due-few : (ws : List (ℕ × List ℕ)) → Fit ws → (n : ℕ) → length (inOrder ws n) ≤ n
+unfolding inOrder
+due-few ws f zero = omega arith
+due-few ws f (suc n) =
+    omega (arith, length-append (inOrder ws n) (newest ws (threadElement n .id)), due-few ws f n, latest-few (threadElement n .id) (newest ws (threadElement n .id)) (latest ws (threadElement n .id) f))
+
+-- ---- a list that fits is a message that a run takes
+pub fit-wire : (es : List (ℕ × List ℕ)) → Fit es → length es ≤ 170 → Wire es
+fit-wire [] f h = wire-nil
+fit-wire (e ∷ es) f h =
+    let t = input-named (e .0) (f .0) in
+    let k = listed-fits (e .0) (t .entry) (e .1) (t .listed) (f .1 ∙ element-size (e .0) t) in
+    wire-cons (e .0) (e .1) es (k .0) (k .1) (omega arith) (fit-wire es (f .2) (omega arith))
+
+fit-at : (es : List (ℕ × List ℕ)) → Fit es → (i : ℕ) → i < length es → (isInput (idIn es i) ≡ true) × (length (valueIn es i) ≡ elementOf (idIn es i) .size)
+fit-at [] f i h = absurd (not-suc-le-zero h)
+fit-at (e ∷ es) f zero h = (f .0, f .1)
+fit-at (e ∷ es) f (suc i) h = fit-at es (f .2) i (le-of-suc-le-suc h)
+
+pub fit-good : (k : Context) → k .usage ≡ RunInput → (es : List (ℕ × List ℕ)) (b : List ℕ) → Fit es → length es ≤ 170 → Begins b (message es) → firstBad k b ≡ Done
+fit-good k u es b f h s =
+    input-good es b (fit-wire es f h) s k
+    (λ i c. allowed-as k (idIn es i) ∙ ap (λ (x : _). allowed x (idIn es i)) u ∙ input-allowed (idIn es i) (fit-at es f i c .0))
+    (λ i c. let q = fit-at es f i c in named-fits (idIn es i) (input-named (idIn es i) (q .0)) (length (valueIn es i)) ∙ eq-eqb _ _ (q .1)) u
+
+-- ---- applied, it is the writes
+place-all : (base : ℕ) (es : List (ℕ × List ℕ)) (s : List ℕ) → Fit es → placeAll base es s ≡ place base es s
+unfolding place
+place-all base [] s f = place-nil base s
+place-all base (e ∷ es) s f =
+    let t = input-named (e .0) (f .0) in
+    place-cons base (e .0) (e .1) es s ∙ ap (placeAll base es) (thread-numbered (e .0) (t .entry) (t .listed) (t .scope) base (e .1) s) ∙ place-all base es (placed base e s) (f .2)
+
+pub due-applied : (base : ℕ) (s : List ℕ) (ws : List (ℕ × List ℕ)) → Fit ws → (b : List ℕ) → Begins b (message (inOrder ws 170)) → applied base b (countOf b) s ≡ back base s ws
+due-applied base s ws f b k =
+    let q = due-fit ws f 170 in
+    applied-message base (inOrder ws 170) b (fit-wire (inOrder ws 170) q (due-few ws f 170)) k s ∙ place-all base (inOrder ws 170) s q ∙ sym (back-newest base s ws f)
+
+pub due-good : (k : Context) → k .usage ≡ RunInput → (ws : List (ℕ × List ℕ)) → Fit ws → (b : List ℕ) → Begins b (message (inOrder ws 170)) → firstBad k b ≡ Done
+due-good k u ws f b s = fit-good k u (inOrder ws 170) b (due-fit ws f 170) (due-few ws f 170) s
+
+-- "All 164 changed need 2,424 bytes."
+pub due-need : (ws : List (ℕ × List ℕ)) → Fit ws → length (message (inOrder ws 170)) ≤ 2424
+due-need ws f = omega (arith, length-message (inOrder ws 170), due-length ws f 170 (omega arith), all-weight)

@@ -1,0 +1,231 @@
+-- The cache after an accepted run: all marks clear, then the output's elements kept with its values. Assumes nothing.
+use mathlib.Core.Path.{_≡_, refl, sym, ap, ap₂, _∙_, subst}
+use mathlib.Core.Bool.{Bool, true, false, _&&_, cond}
+use mathlib.Core.List.{List, [], _∷_, _++_}
+use Prim.Native.Nat.{ℕ, zero, suc, _+_, _^_, _≤_, _<_}
+use native.Mathlib.Omega.{arith}
+use lib.Dec.{eqb, ltb}
+use lib.ListN.{length, getD, take}
+use lib.Seq.{take-suc, take-length}
+use borrow.Author.Tests.{eqb-true, ltb-true}
+use Rattle.octets.specs.Bytes.{bytesAt, put, zeros}
+use Rattle.octets.proofs.Bytes.{length-zeros}
+use Rattle.elements.specs.declared.Scope.{Scope}
+use Rattle.elements.specs.declared.Source.{Source}
+use Rattle.elements.specs.declared.Kind.{Kind}
+use Rattle.elements.specs.Table.{table, below, position, kindOf, numberOf, numbered, threadElement}
+use Rattle.elements.proofs.Table.{listed-stored, thread-stored}
+use Rattle.elements.specs.Rules.{goodInput, goodOutput}
+use Rattle.gsb.specs.Walk.{countOf, idAt, sizeAt, offsetAt}
+use Rattle.gsb.specs.Message.{message}
+use Rattle.gsb.proofs.Messages.{length-message}
+use Rattle.gsb.proofs.RoundTrip.{Begins, idIn, valueIn, Wire, wire-nil, wire-cons, listed-fits, message-count, message-id, message-size, message-inside}
+use Rattle.store.specs.declared.Layout.{Layout}
+use Rattle.store.specs.Layout.{Sound}
+use Rattle.store.proofs.Search.{both}
+use Rattle.transfer.specs.Transfer.{applied, Fits, Moves, Ready, AllReady}
+use Rattle.transfer.proofs.Messages.{placeAll, place-nil, place-cons, applied-message, thread-numbered}
+use Rattle.exits.specs.Exits.{exits, rowOf, returned, elementOf, valued}
+use Rattle.exits.proofs.Written.{length-valued}
+use Rattle.l0.specs.Run.{inputSize, outputSize}
+use Rattle.l1.specs.Cache.{Cache, withMark, valid, changed, keep, marked, refreshed}
+use Rattle.l1.specs.Agree.{Cached, newest}
+use Rattle.l1.proofs.MarkLaws.{mark-none}
+use Rattle.l1.proofs.Cells.{Named, element-size, element-place, named-end, number-named, named-number, valueOf, length-value}
+use Rattle.l1.proofs.Writes.{Fit, back-nil}
+use Rattle.l1.proofs.Ours.{Ours, ours-room}
+use Rattle.l1.proofs.Caches.{cell, dueAt}
+use Rattle.l1.proofs.Invariant.{at, Inv, keep-inv}
+
+-- ---- computed over the table of exits: every ID in it names a thread element
+abbrev idNamed : ℕ → Bool
+idNamed id = ltb (numberOf id) 170 && eqb (threadElement (numberOf id) .id) id
+
+abbrev allNamed : List ℕ → Bool
+allNamed [] = true
+allNamed (id ∷ ids) = idNamed id && allNamed ids
+
+abbrev rowsNamed : List (ℕ × List ℕ) → Bool
+rowsNamed [] = true
+rowsNamed (x ∷ xs) = allNamed (x .1) && rowsNamed xs
+
+rows-named : rowsNamed exits ≡ true
+unfolding exits threadElement numbered numberOf position below table
+rows-named = refl
+
+abbrev pub AllNamed : List ℕ → Type 0
+AllNamed [] = Unit {0}
+AllNamed (id ∷ ids) = Named id × AllNamed ids
+
+all-named : (ids : List ℕ) → allNamed ids ≡ true → AllNamed ids
+all-named [] e = tt
+all-named (id ∷ ids) e =
+    let p = both (idNamed id) (allNamed ids) e in
+    let q = both (ltb (numberOf id) 170) (eqb (threadElement (numberOf id) .id) id) (p .0) in
+    (subst Named (eqb-true _ _ (q .1)) (number-named (numberOf id) (ltb-true _ _ (q .0))), all-named ids (p .1))
+
+row-named : (xs : List (ℕ × List ℕ)) (exit : ℕ) → rowsNamed xs ≡ true → allNamed (rowOf xs exit) ≡ true
+unfolding rowOf
+row-named [] exit e = refl
+row-named (x ∷ xs) exit e = go (eqb (x .0) exit) (both (allNamed (x .1)) (rowsNamed xs) e) (row-named xs exit)
+  where
+    go : (t : Bool) → (allNamed (x .1) ≡ true) × (rowsNamed xs ≡ true) → (rowsNamed xs ≡ true → allNamed (rowOf xs exit) ≡ true) → allNamed (cond t (x .1) (rowOf xs exit)) ≡ true
+    go true p ih = p .0
+    go false p ih = ih (p .1)
+
+pub returned-named : (exit : ℕ) → AllNamed (returned exit)
+returned-named exit = all-named (returned exit) (row-named exits exit rows-named)
+
+-- ---- elements kept one by one
+unfoldable pub keepAll : Cache → List (ℕ × List ℕ) → Cache
+keepAll c [] = c
+keepAll c (e ∷ es) = keepAll (keep c (e .0) (e .1)) es
+
+markAll : List ℕ → List ℕ → List ℕ
+markAll m [] = m
+markAll m (id ∷ ids) = markAll (withMark m (numberOf id)) ids
+
+mark-snoc : (m ids : List ℕ) (id : ℕ) → markAll m (ids ++ (id ∷ [])) ≡ withMark (markAll m ids) (numberOf id)
+unfolding markAll
+mark-snoc m [] id = refl
+mark-snoc m (x ∷ xs) id = mark-snoc (withMark m (numberOf x)) xs id
+
+keep-place : (base : ℕ) (s ids : List ℕ) (c : Cache) → AllNamed ids → keepAll c (valued base s ids) .values ≡ placeAll 0 (valued base s ids) (c .values)
+unfolding valued keepAll
+keep-place base s [] c n = sym (place-nil 0 (c .values))
+keep-place base s (id ∷ ids) c n =
+    let w = valueOf base s id in
+    let t = n .0 in
+    let z : 0 + threadElement (numberOf id) .position ≡ elementOf id .position = omega arith in
+    keep-place base s ids (keep c id w) (n .1) ∙ ap (placeAll 0 (valued base s ids)) (kept id w c ∙ ap (λ (k : ℕ). put (c .values) k w) (sym z) ∙ sym (thread-numbered id (t .entry) (t .listed) (t .scope) 0 w (c .values)))
+    ∙ sym (place-cons 0 id w (valued base s ids) (c .values))
+  where
+    kept : (id : ℕ) (w : List ℕ) (c : Cache) → keep c id w .values ≡ put (c .values) (elementOf id .position) w
+    kept id w c = unfold keep in refl
+
+keep-mark : (base : ℕ) (s ids : List ℕ) (c : Cache) → keepAll c (valued base s ids) .marks ≡ markAll (c .marks) ids
+unfolding valued keepAll keep markAll
+keep-mark base s [] c = refl
+keep-mark base s (id ∷ ids) c = keep-mark base s ids (keep c id (valueOf base s id))
+
+-- ---- the output as it is read
+valued-id : (base : ℕ) (s ids : List ℕ) (i : ℕ) → i < length ids → idIn (valued base s ids) i ≡ getD ids i 0
+unfolding valued
+valued-id base s [] i h = absurd (omega arith)
+valued-id base s (id ∷ ids) zero h = refl
+valued-id base s (id ∷ ids) (suc i) h = valued-id base s ids i (omega arith)
+
+valued-value : (base : ℕ) (s ids : List ℕ) (i : ℕ) → i < length ids → valueIn (valued base s ids) i ≡ valueOf base s (getD ids i 0)
+unfolding valued
+valued-value base s [] i h = absurd (omega arith)
+valued-value base s (id ∷ ids) zero h = refl
+valued-value base s (id ∷ ids) (suc i) h = valued-value base s ids i (omega arith)
+
+named-at : (ids : List ℕ) → AllNamed ids → (i : ℕ) → i < length ids → Named (getD ids i 0)
+named-at [] n i h = absurd (omega arith)
+named-at (id ∷ ids) n zero h = n .0
+named-at (id ∷ ids) n (suc i) h = named-at ids (n .1) i (omega arith)
+
+-- a thread element's value lies within the cache's values
+named-moves : (a id : ℕ) → a ≡ id → Named id → (size : ℕ) → size ≡ elementOf id .size → Moves (kindOf a) 0 size 1820
+named-moves a id e t size z =
+    subst (λ (k : Kind). Moves k 0 size 1820) (sym (ap kindOf e ∙ t .listed))
+    (z ∙ element-size id t, subst (λ (x : Source). Fits x 0 size 1820) (sym (listed-stored id (t .entry) (t .listed) (thread-stored id (t .entry) (t .listed) (t .scope)))) within)
+  where
+    same : position (t .entry .scope) id ≡ elementOf id .position
+    same = ap (λ (c : Scope). position c id) (t .scope) ∙ sym (element-place id t)
+
+    within : 0 + position (t .entry .scope) id + size ≤ 1820
+    within = omega (arith, same, z, named-end id t)
+
+module _ (base : ℕ) (s : List ℕ) (room : base + 1820 ≤ length s) where
+  pub valued-wire : (ids : List ℕ) → AllNamed ids → length ids ≤ 170 → Wire (valued base s ids)
+  unfolding valued
+  valued-wire [] n h = wire-nil
+  valued-wire (id ∷ ids) n h =
+      let t = n .0 in
+      let k = listed-fits id (t .entry) (valueOf base s id) (t .listed) (length-value base s room id t ∙ element-size id t) in
+      wire-cons id (valueOf base s id) (valued base s ids) (k .0) (k .1) (omega (arith, length-valued base s ids)) (valued-wire ids (n .1) (omega arith))
+
+  module _ (ids : List ℕ) (n : AllNamed ids) (few : length ids ≤ 170) (b : List ℕ) (k : Begins b (message (valued base s ids))) (m : List ℕ) where
+    marked-upto : (i : ℕ) → i ≤ length ids → marked m b i ≡ markAll m (take i ids)
+    unfolding marked markAll
+    marked-upto zero h = refl
+    marked-upto (suc i) h =
+        let l : i < length ids = omega arith in
+        let c : i < length (valued base s ids) = omega (arith, length-valued base s ids) in
+        ap₂ (λ (x : List ℕ) (y : ℕ). withMark x (numberOf y)) (marked-upto i (omega arith)) (message-id (valued base s ids) b (valued-wire ids n few) k i c ∙ valued-id base s ids i l)
+        ∙ sym (mark-snoc m (take i ids) (getD ids i 0)) ∙ ap (markAll m) (sym (take-suc ids i 0 l))
+
+    marked-all : marked m b (countOf b) ≡ markAll m ids
+    marked-all =
+        ap (marked m b) (message-count (valued base s ids) b (valued-wire ids n few) k ∙ length-valued base s ids) ∙ marked-upto (length ids) (omega arith) ∙ ap (markAll m) (take-length ids)
+
+  pub refreshed-is : (c : Cache) (ids : List ℕ) → AllNamed ids → length ids ≤ 170 → (b : List ℕ) → Begins b (message (valued base s ids)) → refreshed c b ≡ keepAll (record { values = c .values; marks = zeros 6 }) (valued base s ids)
+  unfolding refreshed
+  refreshed-is c ids n few b k =
+      ap₂ (λ (x y : List ℕ). record { values = x; marks = y })
+      (applied-message 0 (valued base s ids) b (valued-wire ids n few) k (c .values) ∙ sym (keep-place base s ids (record { values = c .values; marks = zeros 6 }) n))
+      (marked-all ids n few b k (zeros 6) ∙ sym (keep-mark base s ids (record { values = c .values; marks = zeros 6 })))
+
+  -- each can be moved into the cache
+  pub valued-ready : (ids : List ℕ) → AllNamed ids → length ids ≤ 170 → (b : List ℕ) → Begins b (message (valued base s ids)) → AllReady 0 b 1820
+  valued-ready ids n few b k = record { long = omega (arith, k .within, length-message (valued base s ids)); each = each }
+    where
+      wire : Wire (valued base s ids)
+      wire = valued-wire ids n few
+
+      each : (i : ℕ) → i < countOf b → Ready 0 b (offsetAt b i) 1820
+      each i h =
+          let es = valued base s ids in
+          let c : i < length es = omega (arith, message-count es b wire k) in
+          let l : i < length ids = omega (arith, length-valued base s ids) in
+          let t = named-at ids n i l in
+          let z = message-size es b wire k i c ∙ ap length (valued-value base s ids i l) ∙ length-value base s room (getD ids i 0) t in
+          record {
+            header = omega (arith, message-inside es b wire k i c);
+            inside = message-inside es b wire k i c;
+            moves = named-moves (idAt b (offsetAt b i)) (getD ids i 0) (message-id es b wire k i c ∙ valued-id base s ids i l) t (sizeAt b (offsetAt b i)) z;
+          }
+
+-- ---- kept one by one, they are tied to the store that they are from
+module _ (l : Layout) (so : Sound l) (g v j : ℕ) (below-slots : j < l .slots) (t : List ℕ) (o : Ours l so g v j below-slots t)
+    (gi : goodInput (inputSize t (at l so g v j below-slots)) ≡ true) (wd : 2424 ≤ inputSize t (at l so g v j below-slots)) (gu : goodOutput (outputSize t (at l so g v j below-slots)) ≡ true) where
+  abbrev place : ℕ
+  place = at l so g v j below-slots
+
+  pub empty-inv : (values : List ℕ) → length values ≡ 1820 → Inv l so g v j below-slots (record { cache = record { values = values; marks = zeros 6 }; store = t }) t []
+  unfolding newest
+  empty-inv values lv = record {
+    ours = o;
+    input = gi;
+    wide = wd;
+    output = gu;
+    values = lv;
+    marks = length-zeros 6;
+    fit = tt;
+    plain = sym (back-nil place t);
+    due = λ e h. ap (λ (x : Bool). cond x ((threadElement e .id, cell (record { values = values; marks = zeros 6 }) (threadElement e .id)) ∷ []) []) (mark-none 6 (192 + e));
+    kept = λ e h q. absurd (never (sym (mark-none 6 (192 + e)) ∙ q));
+    past = λ e a c. (mark-none 6 e, mark-none 6 (192 + e));
+    holds = λ e h q. absurd (never (sym (mark-none 6 e) ∙ q));
+  }
+    where
+      never : false ≡ true → ⊥
+      never e = let z : _≡_ {A = ℕ} 0 1 = cc in omega arith
+
+  -- no mark is changed where nothing waits
+  still : (b : Cached) → Inv l so g v j below-slots b t [] → (e : ℕ) → e < 170 → changed (b .cache) e ≡ false
+  unfolding newest
+  still b i e h = go (changed (b .cache) e) (i .due e h)
+    where
+      go : (x : Bool) → cond {A = List (ℕ × List ℕ)} x ((threadElement e .id, cell (b .cache) (threadElement e .id)) ∷ []) [] ≡ [] → x ≡ false
+      go true q = let z : _≡_ {A = ℕ} 1 0 = ap length q in absurd (omega arith)
+      go false q = refl
+
+  pub keep-all-inv : (ids : List ℕ) → AllNamed ids → (c : Cache) → Inv l so g v j below-slots (record { cache = c; store = t }) t [] → Inv l so g v j below-slots (record { cache = keepAll c (valued place t ids); store = t }) t []
+  unfolding valued keepAll
+  keep-all-inv [] n c i = i
+  keep-all-inv (id ∷ ids) n c i =
+      keep-all-inv ids (n .1) (keep c id (valueOf place t id))
+      (keep-inv l so g v j below-slots (record { cache = c; store = t }) t [] i id (n .0) (still (record { cache = c; store = t }) i (numberOf id) (named-number id (n .0))))

@@ -1,0 +1,401 @@
+-- A run: the cached and the plain L1 give the same, their stores are equal after an accepted one, and they stay tied. Assumes nothing.
+use mathlib.Core.Path.{_≡_, refl, sym, ap, ap₂, _∙_, subst}
+use mathlib.Core.Bool.{Bool, true, false, not, _&&_, _||_, cond}
+use mathlib.Core.List.{List, [], _∷_, _++_}
+use Prim.Native.Nat.{ℕ, zero, suc, _+_, _^_, _≤_, _<_}
+use native.Mathlib.Omega.{arith}
+use lib.Dec.{eqb, ltb, leb}
+use lib.ListN.{length, getD}
+use borrow.Author.Tests.{le-ltb, ltb-false, leb-true, not-false, ne-eqb}
+use Rattle.octets.specs.Bytes.{bytesAt, put, be, zeros}
+use Rattle.octets.proofs.Bytes.{length-put, length-bytesAt, length-zeros}
+use Rattle.octets.proofs.Numbers.{be-ext}
+use Rattle.answer.specs.declared.Fault.{Fault}
+use Rattle.answer.specs.declared.Fault.the-variants.{None, Store, Flag, Guest, Token, Capability, Vcpu, Length, Element, Room, Exists, Unregistered, Short, Exit, Effect, Cache as CacheBad}
+use Rattle.answer.specs.declared.RunBuffer.the-variants.{Input, Output}
+use Rattle.answer.specs.declared.Call.{Call as Name}
+use Rattle.answer.specs.declared.Registers.{Registers}
+use Rattle.answer.specs.Answer.{told}
+use Rattle.answer.specs.Refusals.{firstOf}
+use Rattle.elements.specs.declared.Usage.the-variants.{RunInput, Effect as InEffect}
+use Rattle.elements.specs.declared.Context.{Context}
+use Rattle.elements.specs.Table.{table, below, position}
+use Rattle.elements.specs.Rules.{goodInput, goodOutput}
+use Rattle.gsb.specs.declared.Walked.{Walked}
+use Rattle.gsb.specs.declared.Walked.the-variants.{Done, Stopped}
+use Rattle.gsb.specs.Walk.{countOf, badLength, firstBad}
+use Rattle.gsb.specs.Message.{message}
+use Rattle.gsb.proofs.RoundTrip.{Begins, begins-put, begins-first, zeros-first, zeros-good}
+use Rattle.store.specs.declared.Layout.{Layout}
+use Rattle.store.specs.Layout.{Sound}
+use Rattle.store.specs.Header.{header, capabilitiesOf, live, slotOf}
+use Rattle.store.specs.Store.{wellFormed}
+use Rattle.store.proofs.Search.{both}
+use Rattle.transfer.specs.Transfer.{applied}
+use Rattle.transfer.proofs.Moving.{length-applied}
+use Rattle.transfer.proofs.Messages.{applied-zeros}
+use Rattle.exits.specs.Exits.{known, returned, valued, outputOf}
+use Rattle.exits.proofs.Rows.{length-output, output-short, returned-few}
+use Rattle.l0.specs.declared.Admission.{Admission}
+use Rattle.l0.specs.declared.Admission.the-variants.{Admitted, Refused}
+use Rattle.l0.specs.Refusals.{Outcome, success, refusal, refuse, decide, judgement, malformed, unsupported, notLive}
+use Rattle.l0.specs.State.{targetTests, baseOf, contextOf, isStopped, faultOf, badElement}
+use Rattle.l0.specs.Run.{runBits, inputSize, outputSize, lentTests, effectFault, exitTests, spotTests, inputOf, contentTests, runTests, ranStore, ran, runVcpu}
+use Rattle.l0.proofs.Judging.{settle, settle-append, settle-all, begin-refused, begin-admitted, all-refused, all-admitted, Passed, judged-passed}
+use Rattle.promises.proofs.Kept.{applied-header, applied-kept}
+use Rattle.promises.proofs.Lowest.{Real}
+use Rattle.promises.proofs.Used.{none-told}
+use Rattle.l1.specs.Cache.{Cache, goodCache, pending, refreshed, Ran, ranWith, runCache}
+use Rattle.l1.specs.Plain.{runPlain}
+use Rattle.l1.specs.Agree.{Op, Run, Seen, seen, Turn, Cached, cachedTurn, plainTurn, since, inOrder, inputWith, Same}
+use Rattle.l1.proofs.Writes.{Fit, back}
+use Rattle.l1.proofs.Ours.{base, Ours, ours-base, ours-room, ours-long, back-header, back-input, back-output}
+use Rattle.l1.proofs.Caches.{pending-due}
+use Rattle.l1.proofs.Invariant.{at, Inv, Goes, as-turned, plain-ours, cache-good}
+use Rattle.l1.proofs.Flush.{due-applied, due-good, due-need}
+use Rattle.l1.proofs.Refresh.{returned-named, refreshed-is, empty-inv, keep-all-inv}
+use Rattle.l1.proofs.Effects.{effect-input, effect-output}
+
+-- a run's fault is told alike with the cache and without
+run-told : (f : Fault) (n : ℕ) → told Name.CacheRun f n ≡ told Name.RunVcpu f n
+run-told None n = refl
+run-told Store n = refl
+run-told (Flag bit) n = refl
+run-told Guest n = refl
+run-told Token n = refl
+run-told Capability n = refl
+run-told Vcpu n = refl
+run-told Length n = refl
+run-told (Element bad place) n = refl
+run-told Room n = refl
+run-told Exists n = refl
+run-told (Unregistered buffer) n = refl
+run-told (Short buffer) n = refl
+run-told Exit n = refl
+run-told (Effect place) n = refl
+run-told CacheBad n = refl
+
+-- a test that holds refuses with a fault
+real-fault : (xs : List (Bool × Fault)) → Real xs → (f : Fault) → judgement xs ≡ Refused f → f ≡ None → ⊥
+real-fault [] r f e = let z : _≡_ {A = ℕ} 0 1 = cc in absurd (omega arith)
+real-fault (x ∷ xs) r f e = go (x .0) refl e (real-fault xs (r .1) f)
+  where
+    same : {a b : Fault} → Refused a ≡ Refused b → a ≡ b
+    same q = cc
+
+    go : (t : Bool) → x .0 ≡ t → cond t (Refused (x .1)) (judgement xs) ≡ Refused f → (judgement xs ≡ Refused f → f ≡ None → ⊥) → f ≡ None → ⊥
+    go true q h ih n = r .0 q (same h ∙ n)
+    go false q h ih n = ih h n
+
+effect-real : (w : Walked) → isStopped w ≡ true → effectFault w ≡ None → ⊥
+effect-real Done e q = let z : _≡_ {A = ℕ} 0 1 = cc in omega arith
+effect-real (Stopped bad place) e q = let z : _≡_ {A = ℕ} 0 1 = cc in omega arith
+
+module _ (l : Layout) (so : Sound l) (g v j : ℕ) (below-slots : j < l .slots) (flags : ℕ) (input output effect : List ℕ) (exit : ℕ) where
+  abbrev place : ℕ
+  place = at l so g v j below-slots
+
+  -- ---- the tests 1 to 12, by the header and the two sizes alone
+  common : List ℕ → ℕ → ℕ → List (Bool × Fault)
+  common h i o =
+      (false, Store) ∷ unsupported runBits flags ∷ (not (live l h g), Guest) ∷ (leb (l .slots) (slotOf l h g v), Vcpu)
+      ∷ (not (goodInput i), Unregistered Input) ∷ (not (goodOutput o), Unregistered Output) ∷ (ltb (length input) i || false, Short Input) ∷ (ltb (length output) o, Short Output) ∷ []
+
+  common-real : (h : List ℕ) (i o : ℕ) → Real (common h i o)
+  unfolding common
+  common-real h i o = (
+    (λ t z. let y : _≡_ {A = ℕ} 0 1 = cc in omega arith),
+    (
+      (λ t z. let y : _≡_ {A = ℕ} 0 1 = cc in omega arith),
+      (
+        (λ t z. let y : _≡_ {A = ℕ} 0 1 = cc in omega arith),
+        (
+          (λ t z. let y : _≡_ {A = ℕ} 0 1 = cc in omega arith),
+          (
+            (λ t z. let y : _≡_ {A = ℕ} 0 1 = cc in omega arith),
+            (
+              (λ t z. let y : _≡_ {A = ℕ} 0 1 = cc in omega arith),
+              ((λ t z. let y : _≡_ {A = ℕ} 0 1 = cc in omega arith), ((λ t z. let y : _≡_ {A = ℕ} 0 1 = cc in omega arith), tt)),
+            ),
+          ),
+        ),
+      ),
+    ),
+  )
+
+  spot-common : (s : List ℕ) → Ours l so g v j below-slots s → (need lent : ℕ) → need ≤ inputSize s place → lent ≡ length input
+      → spotTests l s flags g v need lent (length output) ≡ common (header l s) (inputSize s place) (outputSize s place)
+  unfolding common
+  spot-common s o need lent k e =
+      ap₂ (λ (t : Bool) (x : ℕ). ((not t, Store) ∷ unsupported runBits flags ∷ (not (live l (header l s) g), Guest) ∷ (leb (l .slots) (slotOf l (header l s) g v), Vcpu) ∷ []) ++ lentTests s x need lent (length output)) (o .good) (ours-base l so g v j below-slots s o)
+      ∙ ap₂ (λ (n : ℕ) (z : Bool). (false, Store) ∷ unsupported runBits flags ∷ (not (live l (header l s) g), Guest) ∷ (leb (l .slots) (slotOf l (header l s) g v), Vcpu)
+      ∷ (not (goodInput (inputSize s place)), Unregistered Input) ∷ (not (goodOutput (outputSize s place)), Unregistered Output) ∷ (ltb n (inputSize s place) || z, Short Input) ∷ (ltb (length output) (outputSize s place), Short Output) ∷ [])
+      e (le-ltb (inputSize s place) need k)
+
+  -- what they say of the lent buffers
+  record Lent (i o : ℕ) : Type 0 where
+    some : 4 ≤ i
+    lent : i ≤ length input
+    out : 124 ≤ length output
+
+  or-left : (a b : Bool) → (a || b) ≡ false → a ≡ false
+  or-left true b e = e
+  or-left false b e = refl
+
+  common-lent : (h : List ℕ) (i o : ℕ) → judgement (common h i o) ≡ Admitted → Lent i o
+  unfolding common
+  common-lent h i o e =
+      let p = judged-passed (common h i o) e in
+      let t = p .1 .1 .1 .1 in
+      let a = both (leb 4 i) (leb i 65536) (not-false _ (t .0)) in
+      let c = both (leb 124 o) (leb o 65536) (not-false _ (t .1 .0)) in
+      record {
+        some = leb-true _ _ (a .0);
+        lent = ltb-false _ _ (or-left _ _ (t .1 .1 .0));
+        out = omega (arith, leb-true 124 o (c .0), ltb-false (length output) o (t .1 .1 .1 .0));
+      }
+
+  -- ---- 13 and 14
+  abbrev ends : List ℕ → List (Bool × Fault)
+  ends s = exitTests l s effect exit
+
+  ends-same : (s t : List ℕ) → header l t ≡ header l s → ends t ≡ ends s
+  ends-same s t e =
+      ap (λ (h : List ℕ). (not (known exit), Exit) ∷ (badLength effect, Effect (record { index = 0; offset = 0 }))
+      ∷ (isStopped (firstBad (record { usage = InEffect; capabilities = capabilitiesOf h }) effect), effectFault (firstBad (record { usage = InEffect; capabilities = capabilitiesOf h }) effect)) ∷ []) e
+
+  ends-real : (s : List ℕ) → Real (ends s)
+  ends-real s =
+      ((λ t z. let y : _≡_ {A = ℕ} 0 1 = cc in omega arith), ((λ t z. let y : _≡_ {A = ℕ} 0 1 = cc in omega arith), (effect-real (firstBad (contextOf l s InEffect) effect), tt)))
+
+  -- ---- a run on a store, given an input that is good: past 12 it is 13, 14 and what it does
+  module _ (s : List ℕ) (o : Ours l so g v j below-slots s) (lent : List ℕ) (n : length lent ≡ length input) where
+    abbrev counts : List ℕ
+    counts = bytesAt lent 0 (inputSize s place)
+
+    run-as : runVcpu l s flags g v lent output effect exit
+        ≡ firstOf (refuse s output) (common (header l s) (inputSize s place) (outputSize s place) ++ contentTests l s counts effect exit) (ran place s counts output effect exit)
+    unfolding runVcpu decide
+    run-as =
+        ap₂ (λ (xs : List (Bool × Fault)) (x : ℕ). firstOf (refuse s output) (xs ++ contentTests l s (inputOf s x lent) effect exit) (ran x s (inputOf s x lent) output effect exit))
+        (spot-common s o 0 (length lent) (omega arith) n) (ours-base l so g v j below-slots s o)
+
+    run-off : (f : Fault) → judgement (common (header l s) (inputSize s place) (outputSize s place)) ≡ Refused f → runVcpu l s flags g v lent output effect exit ≡ refuse s output f
+    run-off f e =
+        run-as ∙ begin-refused (refuse s output) (ran place s counts output effect exit) (common (header l s) (inputSize s place) (outputSize s place)) (contentTests l s counts effect exit) f e
+
+    run-on : judgement (common (header l s) (inputSize s place) (outputSize s place)) ≡ Admitted → firstBad (contextOf l s RunInput) counts ≡ Done
+        → runVcpu l s flags g v lent output effect exit ≡ firstOf (refuse s output) (ends s) (ran place s counts output effect exit)
+    run-on e d =
+        run-as ∙ begin-admitted (refuse s output) (ran place s counts output effect exit) (common (header l s) (inputSize s place) (outputSize s place)) (contentTests l s counts effect exit) e
+        ∙ ap (λ (w : Walked). cond (isStopped w) (refuse s output (faultOf w)) (firstOf (refuse s output) (ends s) (ran place s counts output effect exit))) d
+
+  -- ---- both L1s
+  module _ (b : Cached) (p : List ℕ) (ws : List (ℕ × List ℕ)) (i : Inv l so g v j below-slots b p ws) where
+    abbrev s : List ℕ
+    s = b .store
+
+    plain-is : Ours l so g v j below-slots p
+    plain-is = plain-ours l so g v j below-slots b p ws i
+
+    same-header : header l p ≡ header l s
+    same-header = ap (header l) (i .plain) ∙ back-header l so g v j below-slots s ws (i .fit)
+
+    same-input : inputSize p place ≡ inputSize s place
+    same-input = ap (λ (x : List ℕ). inputSize x place) (i .plain) ∙ back-input l so g v j below-slots s ws (i .fit)
+
+    same-output : outputSize p place ≡ outputSize s place
+    same-output = ap (λ (x : List ℕ). outputSize x place) (i .plain) ∙ back-output l so g v j below-slots s ws (i .fit)
+
+    abbrev firsts : List (Bool × Fault)
+    firsts = common (header l s) (inputSize s place) (outputSize s place)
+
+    plain-firsts : common (header l p) (inputSize p place) (outputSize p place) ≡ firsts
+    plain-firsts = ap₂ (λ (h : List ℕ) (x : ℕ). common h x (outputSize p place)) same-header same-input ∙ ap (common (header l s) (inputSize s place)) same-output
+
+    -- ---- the cached run
+    waits : pending (b .cache) ≡ inOrder ws 170
+    waits = pending-due (b .cache) ws (i .due)
+
+    need-fits : length (message (pending (b .cache))) ≤ inputSize s place
+    need-fits = omega (arith, ap (λ (es : List (ℕ × List ℕ)). length (message es)) waits, due-need ws (i .fit), i .wide)
+
+    abbrev laid : List ℕ
+    laid = put input 0 (message (pending (b .cache)))
+
+    abbrev refusedRun : Fault → Ran
+    refusedRun f = record { answer = refusal f; store = s; cache = b .cache; input = input; output = output }
+
+    abbrev goneOn : Ran
+    goneOn = ranWith (b .cache) laid (runVcpu l s flags g v laid output effect exit)
+
+    cached-as : runCache l s (b .cache) flags g v input output effect exit ≡ firstOf refusedRun (firsts ++ ends s) goneOn
+    unfolding runCache
+    cached-as =
+        ap₂ (λ (t : Bool) (xs : List (Bool × Fault)). cond (not t) (refusedRun CacheBad) (firstOf refusedRun (xs ++ ends s) goneOn))
+        (cache-good l so g v j below-slots b p ws i) (spot-common s (i .ours) (length (message (pending (b .cache)))) (length input) need-fits refl)
+
+    -- ---- the plain run: its input holds no element
+    abbrev blank : List ℕ
+    blank = zeros (length input)
+
+    blank-long : length blank ≡ length input
+    blank-long = length-zeros (length input)
+
+    plain-off : (f : Fault) → judgement firsts ≡ Refused f → runPlain l p flags g v input output effect exit ≡ refuse p output f
+    unfolding runPlain
+    plain-off f e = run-off p plain-is blank blank-long f (ap judgement plain-firsts ∙ e)
+
+    module _ (e : judgement firsts ≡ Admitted) where
+      open-lent : Lent (inputSize s place) (outputSize s place)
+      open-lent = common-lent (header l s) (inputSize s place) (outputSize s place) e
+
+      blank-part : bytesAt blank 0 (inputSize p place) ≡ zeros (inputSize s place)
+      blank-part = ap (bytesAt blank 0) same-input ∙ zeros-first (length input) (inputSize s place) (open-lent .lent)
+
+      plain-on : runPlain l p flags g v input output effect exit ≡ firstOf (refuse p output) (ends s) (ran place p (zeros (inputSize s place)) output effect exit)
+      unfolding runPlain
+      plain-on =
+          run-on p plain-is blank blank-long (ap judgement plain-firsts ∙ e) (ap (firstBad (contextOf l p RunInput)) blank-part ∙ zeros-good (contextOf l p RunInput) (inputSize s place) (open-lent .some))
+          ∙ ap₂ (λ (xs : List (Bool × Fault)) (x : List ℕ). firstOf (refuse p output) xs (ran place p x output effect exit)) (ends-same s p same-header) blank-part
+
+      -- the store after the run, of both
+      abbrev after : List ℕ
+      after = applied place effect (countOf effect) p
+
+      plain-store : ranStore place (zeros (inputSize s place)) effect p ≡ after
+      unfolding ranStore
+      plain-store = ap (applied place effect (countOf effect)) (applied-zeros place (inputSize s place) p (open-lent .some))
+
+      -- the cached run's input begins with what is due
+      laid-begins : Begins (bytesAt laid 0 (inputSize s place)) (message (inOrder ws 170))
+      laid-begins =
+          let q = ap (λ (es : List (ℕ × List ℕ)). length (message es)) waits in
+          subst (λ (es : List (ℕ × List ℕ)). Begins (bytesAt laid 0 (inputSize s place)) (message es)) waits
+          (begins-first laid (message (pending (b .cache))) (inputSize s place) (begins-put input (message (pending (b .cache))) (omega (arith, need-fits, open-lent .lent))) need-fits
+          (omega (arith, length-put input 0 (message (pending (b .cache))), open-lent .lent)))
+
+      cached-store : ranStore place (bytesAt laid 0 (inputSize s place)) effect s ≡ after
+      unfolding ranStore
+      cached-store = ap (applied place effect (countOf effect)) (due-applied place s ws (i .fit) (bytesAt laid 0 (inputSize s place)) laid-begins ∙ sym (i .plain))
+
+      -- what both leave
+      abbrev left : Outcome
+      left = record { answer = success exit; store = after; buffer = put output 0 (outputOf place after exit) }
+
+      left-by : (t inp : List ℕ) → ranStore place inp effect t ≡ after → ran place t inp output effect exit ≡ left
+      unfolding ran
+      left-by t inp q = ap (λ (x : List ℕ). record { answer = success exit; store = x; buffer = put output 0 (outputOf place x exit) }) q
+
+      cached-ran : judgement (ends s) ≡ Admitted → runVcpu l s flags g v laid output effect exit ≡ left
+      cached-ran a =
+          run-on s (i .ours) laid (length-put input 0 (message (pending (b .cache)))) e (due-good (contextOf l s RunInput) refl ws (i .fit) (bytesAt laid 0 (inputSize s place)) laid-begins)
+          ∙ all-admitted (refuse s output) (ran place s (bytesAt laid 0 (inputSize s place)) output effect exit) (ends s) a
+          ∙ left-by s (bytesAt laid 0 (inputSize s place)) cached-store
+
+    -- ---- the turn, by what each side did
+    abbrev cachedOf : Ran → Turn Cached
+    cachedOf r = record { shown = seen Name.CacheRun (r .answer) (r .output); next = record { cache = r .cache; store = r .store }; input = r .input }
+
+    abbrev plainOf : Outcome → Turn (List ℕ)
+    plainOf o = record { shown = seen Name.RunVcpu (o .answer) (o .buffer); next = o .store; input = zeros (length input) }
+
+    abbrev op : Op
+    op = Run flags input output effect exit
+
+    ran-turn : (r : Ran) (o : Outcome) → runCache l s (b .cache) flags g v input output effect exit ≡ r → runPlain l p flags g v input output effect exit ≡ o
+        → Goes l so g v j below-slots op ws (cachedOf r) (plainOf o) → Goes l so g v j below-slots op ws (cachedTurn l g v op b) (plainTurn l g v op p)
+    unfolding cachedTurn plainTurn
+    ran-turn r o e q t = as-turned l so g v j below-slots op ws _ _ _ _ (ap cachedOf e) (ap plainOf q) t
+
+    -- a refusal keeps everything
+    refused-turn : (f : Fault) → (f ≡ None → ⊥) → Goes l so g v j below-slots op ws (cachedOf (refusedRun f)) (plainOf (refuse p output f))
+    unfolding since
+    refused-turn f n = record {
+      same = record { shown = ap (λ (r : Registers). record { answer = r; buffer = output }) (run-told f 0); stores = λ z. absurd (n (none-told Name.RunVcpu f 0 z)); input = λ z. absurd (n (none-told Name.RunVcpu f 0 z)) };
+      next = subst (λ (t : Bool). Inv l so g v j below-slots b p (cond t [] ws)) (sym (not-zero (told Name.RunVcpu f 0 .r3) (λ z. n (none-told Name.RunVcpu f 0 z)))) i;
+    }
+      where
+        not-zero : (x : ℕ) → (x ≡ 0 → ⊥) → eqb x 0 ≡ false
+        not-zero x h = ne-eqb x 0 h
+
+    -- ---- after an accepted run
+    module _ (e : judgement firsts ≡ Admitted) (a : judgement (ends s) ≡ Admitted) where
+      walked : firstBad (contextOf l p InEffect) effect ≡ Done
+      walked =
+          let q = judged-passed (ends p) (ap judgement (ends-same s p same-header) ∙ a) in
+          done (firstBad (contextOf l p InEffect) effect) (q .1 .1 .0)
+        where
+          done : (w : Walked) → isStopped w ≡ false → w ≡ Done
+          done Done d = refl
+          done (Stopped bad place) d = let y : _≡_ {A = ℕ} 0 1 = cc in absurd (omega arith)
+
+      abbrev then : List ℕ
+      then = applied place effect (countOf effect) p
+
+      behind : l .«guests_at» ≤ place
+      behind = omega (arith, so .guests-fit)
+
+      then-ours : Ours l so g v j below-slots then
+      then-ours = record {
+        good = applied-kept l so place effect (countOf effect) p behind ∙ plain-is .good;
+        slot = ap (λ (h : List ℕ). slotOf l h g v) (applied-header l so place effect (countOf effect) p behind) ∙ plain-is .slot;
+      }
+
+      then-input : inputSize then place ≡ inputSize s place
+      then-input = effect-input (contextOf l p InEffect) refl place effect p walked ∙ same-input
+
+      then-output : outputSize then place ≡ outputSize s place
+      then-output = effect-output (contextOf l p InEffect) refl place effect p walked ∙ same-output
+
+      room : place + 1820 ≤ length then
+      room = ours-room l so g v j below-slots then then-ours
+
+      few : length (returned exit) ≤ 170
+      few = omega (arith, returned-few exit)
+
+      begun : Begins (put output 0 (outputOf place then exit)) (message (valued place then (returned exit)))
+      unfolding outputOf
+      begun = begins-put output (outputOf place then exit) (omega (arith, length-output place then exit room, output-short exit, open-lent e .out))
+
+      next-inv : Inv l so g v j below-slots (record { cache = refreshed (b .cache) (put output 0 (outputOf place then exit)); store = then }) then []
+      next-inv =
+          subst (λ (c : Cache). Inv l so g v j below-slots (record { cache = c; store = then }) then [])
+          (sym (refreshed-is place then room (b .cache) (returned exit) (returned-named exit) few (put output 0 (outputOf place then exit)) begun))
+          (keep-all-inv l so g v j below-slots then then-ours gi wd gu (returned exit) (returned-named exit) (record { values = b .cache .values; marks = zeros 6 })
+          (empty-inv l so g v j below-slots then then-ours gi wd gu (b .cache .values) (i .values)))
+        where
+          gi : goodInput (inputSize then place) ≡ true
+          gi = ap goodInput then-input ∙ i .input
+
+          wd : 2424 ≤ inputSize then place
+          wd = omega (arith, i .wide, then-input)
+
+          gu : goodOutput (outputSize then place) ≡ true
+          gu = ap goodOutput then-output ∙ i .output
+
+      accepted-turn : Goes l so g v j below-slots op ws (cachedTurn l g v op b) (plainTurn l g v op p)
+      unfolding since ranWith
+      accepted-turn =
+          ran-turn (ranWith (b .cache) laid (left e)) (left e)
+          (cached-as ∙ begin-admitted refusedRun goneOn firsts (ends s) e ∙ all-admitted refusedRun goneOn (ends s) a ∙ ap (ranWith (b .cache) laid) (cached-ran e a))
+          (plain-on e ∙ all-admitted (refuse p output) (ran place p (zeros (inputSize s place)) output effect exit) (ends s) a ∙ left-by e p (zeros (inputSize s place)) (plain-store e))
+          (record {
+            same = record { shown = refl; stores = λ z. refl; input = λ z. ap (λ (es : List (ℕ × List ℕ)). put input 0 (message es)) waits };
+            next = next-inv;
+          })
+
+    pub run-turn : Goes l so g v j below-slots op ws (cachedTurn l g v op b) (plainTurn l g v op p)
+    run-turn = by-firsts (judgement firsts) refl
+      where
+        by-ends : judgement firsts ≡ Admitted → (x : Admission) → judgement (ends s) ≡ x → Goes l so g v j below-slots op ws (cachedTurn l g v op b) (plainTurn l g v op p)
+        by-ends e Admitted q = accepted-turn e q
+        by-ends e (Refused f) q =
+            ran-turn (refusedRun f) (refuse p output f) (cached-as ∙ begin-admitted refusedRun goneOn firsts (ends s) e ∙ all-refused refusedRun goneOn (ends s) f q)
+            (plain-on e ∙ all-refused (refuse p output) (ran place p (zeros (inputSize s place)) output effect exit) (ends s) f q) (refused-turn f (real-fault (ends s) (ends-real s) f q))
+
+        by-firsts : (x : Admission) → judgement firsts ≡ x → Goes l so g v j below-slots op ws (cachedTurn l g v op b) (plainTurn l g v op p)
+        by-firsts Admitted e = by-ends e (judgement (ends s)) refl
+        by-firsts (Refused f) e =
+            ran-turn (refusedRun f) (refuse p output f) (cached-as ∙ begin-refused refusedRun goneOn firsts (ends s) f e) (plain-off f e)
+            (refused-turn f (real-fault firsts (common-real (header l s) (inputSize s place) (outputSize s place)) f e))

@@ -1,0 +1,162 @@
+-- Set and get state of one element: what the plain L1 makes of a write and of a read. Assumes nothing.
+use mathlib.Core.Path.{_≡_, refl, sym, ap, ap₂, _∙_, subst}
+use mathlib.Core.Logic.{_≢_}
+use mathlib.Core.Bool.{Bool, true, false, not, _&&_, _||_, cond}
+use mathlib.Core.List.{List, [], _∷_, _++_, append-nil, append-assoc}
+use Prim.Native.Nat.{ℕ, suc, _+_, _^_, _≤_, _<_}
+use native.Mathlib.Omega.{arith}
+use lib.Dec.{eqb, ltb}
+use lib.ListN.{length}
+use borrow.Author.Tests.{ltb-false, eqb-true}
+use Rattle.octets.specs.Bytes.{bytesAt, put}
+use Rattle.answer.specs.declared.Bad.{Bad}
+use Rattle.answer.specs.declared.Bad.the-variants.{Id, Size, Value}
+use Rattle.answer.specs.declared.Fault.{Fault}
+use Rattle.answer.specs.declared.Fault.the-variants.{Length, Element}
+use Rattle.answer.specs.Refusals.{firstOf}
+use Rattle.elements.specs.declared.Scope.the-variants.{Thread}
+use Rattle.elements.specs.declared.Usage.{Usage}
+use Rattle.elements.specs.declared.Usage.the-variants.{ThreadGet, ThreadSet, RunInput}
+use Rattle.elements.specs.declared.Context.{Context}
+use Rattle.elements.specs.Table.{kindOf, position}
+use Rattle.elements.specs.Rules.{permits, sizeFits, isSetting, goodValue}
+use Rattle.elements.proofs.Rules.{value-get, value-run}
+use Rattle.gsb.specs.declared.Walked.{Walked}
+use Rattle.gsb.specs.declared.Walked.the-variants.{Done, Stopped}
+use Rattle.gsb.specs.Walk.{countOf, badLength, firstBad}
+use Rattle.gsb.specs.Message.{elementBytes, elementsBytes, message}
+use Rattle.gsb.proofs.RoundTrip.{begins-self, wire-one, firstPlace, one-bad-length, one-element}
+use Rattle.store.specs.declared.Layout.{Layout}
+use Rattle.store.specs.Layout.{Sound, slotAt}
+use Rattle.transfer.specs.Transfer.{applied, filled}
+use Rattle.transfer.proofs.Messages.{place-cons, place-nil, applied-message, thread-numbered, filled-value-one}
+use Rattle.exits.specs.Exits.{elementOf}
+use Rattle.l0.specs.Refusals.{Outcome, accept, refuse, decide, bit0, hasBit0}
+use Rattle.l0.specs.State.{targetTests, baseOf, contextOf, isStopped, faultOf, bufferTests, setState, fillWith, getState}
+use Rattle.promises.proofs.States.{skip}
+use Rattle.l1.specs.Cache.{allowed, isInput, isReadable, isSpecial, first, one, valueIn}
+use Rattle.l1.specs.Plain.{plainTests, writePlain, readPlain}
+use Rattle.l1.proofs.Cells.{Named, element-size, element-place, named-end, named-fits, allowed-as, set-as-input, get-as-readable, input-named, readable-named, valueOf}
+use Rattle.l1.proofs.Ours.{base, Ours, ours-base, ours-room, ours-target}
+
+-- what a thread set takes beside the special ones has no value rule
+input-ruled : (c id : ℕ) (b : List ℕ) (at : ℕ) → isInput id ≡ true → goodValue (record { usage = ThreadSet; capabilities = c }) id b at ≡ true
+unfolding goodValue isInput
+input-ruled c id b at h =
+    value-run (record { usage = RunInput; capabilities = c }) id b at refl (allowed-as (record { usage = RunInput; capabilities = c }) id ∙ part (eqb id 0) h)
+  where
+    part : (t : Bool) → (not t && allowed RunInput id) ≡ true → allowed RunInput id ≡ true
+    part true e = let z : _≡_ {A = ℕ} 0 1 = cc in absurd (omega arith)
+    part false e = e
+
+module _ (l : Layout) (so : Sound l) (g v j : ℕ) (below : j < l .slots) (s : List ℕ) (o : Ours l so g v j below s) (id : ℕ) (w : List ℕ) where
+  abbrev at : ℕ
+  at = base l so g v j below
+
+  -- past the tests 1 to 4
+  set-past : setState l s 0 g v (one id w) ≡ firstOf (refuse s []) (bufferTests l s ThreadSet (one id w)) (accept 0 (applied at (one id w) (countOf (one id w)) s))
+  unfolding setState decide
+  set-past =
+      skip (refuse s []) (targetTests l s bit0 0 false g v) (bufferTests l s ThreadSet (one id w)) (accept 0 (applied (baseOf l s false g v) (one id w) (countOf (one id w)) s)) (ours-target l so g v j below s o)
+      ∙ ap (λ (b : ℕ). firstOf (refuse s []) (bufferTests l s ThreadSet (one id w)) (accept 0 (applied b (one id w) (countOf (one id w)) s))) (ours-base l so g v j below s o)
+
+  get-past : getState l s 0 g v (one id w) ≡ firstOf (refuse s (one id w)) (bufferTests l s ThreadGet (one id w)) (fillWith s at (one id w))
+  unfolding getState decide
+  get-past =
+      skip (refuse s (one id w)) (targetTests l s bit0 0 false g v) (bufferTests l s ThreadGet (one id w)) (fillWith s (baseOf l s false g v) (one id w)) (ours-target l so g v j below s o)
+      ∙ ap (λ (b : ℕ). firstOf (refuse s (one id w)) (bufferTests l s ThreadGet (one id w)) (fillWith s b (one id w))) (ours-base l so g v j below s o)
+
+  -- ---- a value that is too long, and a special ID
+  module _ (long : ltb 65528 (length w) ≡ true) where
+    pub write-long : writePlain l s g v id w ≡ refuse s [] Length
+    unfolding writePlain decide
+    write-long = ap (λ (t : Bool). cond t (refuse s [] Length) (cond (isSpecial id) (refuse s [] (Element Id first)) (setState l s 0 g v (one id w)))) long
+
+    pub read-long : readPlain l s g v id w ≡ refuse s (one id w) Length
+    unfolding readPlain decide
+    read-long = ap (λ (t : Bool). cond t (refuse s (one id w) Length) (cond (isSpecial id) (refuse s (one id w) (Element Id first)) (getState l s 0 g v (one id w)))) long
+
+  module _ (short : ltb 65528 (length w) ≡ false) where
+    fits : length w < 2 ^ 16
+    fits = omega (arith, ltb-false 65528 (length w) short)
+
+    module _ (special : isSpecial id ≡ true) where
+      pub write-special : writePlain l s g v id w ≡ refuse s [] (Element Id first)
+      unfolding writePlain decide
+      write-special = ap₂ (λ (t u : Bool). cond t (refuse s [] Length) (cond u (refuse s [] (Element Id first)) (setState l s 0 g v (one id w)))) short special
+
+      pub read-special : readPlain l s g v id w ≡ refuse s (one id w) (Element Id first)
+      unfolding readPlain decide
+      read-special = ap₂ (λ (t u : Bool). cond t (refuse s (one id w) Length) (cond u (refuse s (one id w) (Element Id first)) (getState l s 0 g v (one id w)))) short special
+
+    module _ (common : isSpecial id ≡ false) (small : id < 2 ^ 16) where
+      write-past : writePlain l s g v id w ≡ setState l s 0 g v (one id w)
+      unfolding writePlain decide
+      write-past = ap₂ (λ (t u : Bool). cond t (refuse s [] Length) (cond u (refuse s [] (Element Id first)) (setState l s 0 g v (one id w)))) short common
+
+      read-past : readPlain l s g v id w ≡ getState l s 0 g v (one id w)
+      unfolding readPlain decide
+      read-past = ap₂ (λ (t u : Bool). cond t (refuse s (one id w) Length) (cond u (refuse s (one id w) (Element Id first)) (getState l s 0 g v (one id w)))) short common
+
+      -- the buffer of one element, judged
+      judged : {A : Type 0} (turn : Fault → A) (good : A) (usage : Usage) (r : Walked) → firstBad (contextOf l s usage) (one id w) ≡ r
+          → firstOf turn (bufferTests l s usage (one id w)) good ≡ cond (isStopped r) (turn (faultOf r)) good
+      judged turn good usage r e =
+          ap₂ (λ (t : Bool) (x : Walked). cond t (turn Length) (cond (isStopped x) (turn (faultOf x)) good)) (one-bad-length id w ∙ short) e
+
+      walked : (usage : Usage) (p q r : Bool) → allowed usage id ≡ p → sizeFits (kindOf id) (length w) ≡ q → goodValue (contextOf l s usage) id (one id w) 8 ≡ r
+          → firstBad (contextOf l s usage) (one id w) ≡ cond (not p) (Stopped Id firstPlace) (cond (not q) (Stopped Size firstPlace) (cond (not r) (Stopped Value firstPlace) Done))
+      walked usage p q r a b c =
+          one-element (contextOf l s usage) id w small fits
+          ∙ ap₂ (λ (x y : Bool). cond (not x) (Stopped Id firstPlace) (cond (not y) (Stopped Size firstPlace) (cond (not (goodValue (contextOf l s usage) id (one id w) 8)) (Stopped Value firstPlace) Done))) (allowed-as (contextOf l s usage) id ∙ a) b
+          ∙ ap (λ (z : Bool). cond (not p) (Stopped Id firstPlace) (cond (not q) (Stopped Size firstPlace) (cond (not z) (Stopped Value firstPlace) Done))) c
+
+      -- ---- not permitted
+      pub write-id : isInput id ≡ false → writePlain l s g v id w ≡ refuse s [] (Element Id firstPlace)
+      write-id h =
+          write-past ∙ set-past
+          ∙ judged (refuse s []) (accept 0 (applied at (one id w) (countOf (one id w)) s)) ThreadSet (Stopped Id firstPlace) (walked ThreadSet false (sizeFits (kindOf id) (length w)) (goodValue (contextOf l s ThreadSet) id (one id w) 8) (set-as-input id common ∙ h) refl refl)
+
+      pub read-id : isReadable id ≡ false → readPlain l s g v id w ≡ refuse s (one id w) (Element Id firstPlace)
+      read-id h =
+          read-past ∙ get-past
+          ∙ judged (refuse s (one id w)) (fillWith s at (one id w)) ThreadGet (Stopped Id firstPlace) (walked ThreadGet false (sizeFits (kindOf id) (length w)) (goodValue (contextOf l s ThreadGet) id (one id w) 8) (get-as-readable id common ∙ h) refl refl)
+
+      -- ---- another size
+      pub write-size : isInput id ≡ true → eqb (length w) (elementOf id .size) ≡ false → writePlain l s g v id w ≡ refuse s [] (Element Size firstPlace)
+      write-size h z =
+          write-past ∙ set-past
+          ∙ judged (refuse s []) (accept 0 (applied at (one id w) (countOf (one id w)) s)) ThreadSet (Stopped Size firstPlace)
+          (walked ThreadSet true false (goodValue (contextOf l s ThreadSet) id (one id w) 8) (set-as-input id common ∙ h) (named-fits id (input-named id h) (length w) ∙ z) refl)
+
+      pub read-size : isReadable id ≡ true → eqb (length w) (elementOf id .size) ≡ false → readPlain l s g v id w ≡ refuse s (one id w) (Element Size firstPlace)
+      read-size h z =
+          read-past ∙ get-past
+          ∙ judged (refuse s (one id w)) (fillWith s at (one id w)) ThreadGet (Stopped Size firstPlace)
+          (walked ThreadGet true false (goodValue (contextOf l s ThreadGet) id (one id w) 8) (get-as-readable id common ∙ h) (named-fits id (readable-named id h) (length w) ∙ z) refl)
+
+      -- ---- good
+      pub write-good : isInput id ≡ true → eqb (length w) (elementOf id .size) ≡ true → writePlain l s g v id w ≡ accept 0 (put s (at + elementOf id .position) w)
+      write-good h z =
+          let t = input-named id h in
+          write-past ∙ set-past
+          ∙ judged (refuse s []) (accept 0 (applied at (one id w) (countOf (one id w)) s)) ThreadSet Done
+          (walked ThreadSet true true true (set-as-input id common ∙ h) (named-fits id t (length w) ∙ z) (input-ruled _ id (one id w) 8 h))
+          ∙ ap (accept 0) (applied-message at ((id, w) ∷ []) (one id w) (wire-one id w small fits) (begins-self (one id w)) s ∙ place-cons at id w [] s ∙ place-nil at _ ∙ thread-numbered id (t .entry) (t .listed) (t .scope) at w s)
+
+      -- what a get that is accepted leaves
+      pub get-good : isReadable id ≡ true → eqb (length w) (elementOf id .size) ≡ true → getState l s 0 g v (one id w) ≡ fillWith s at (one id w)
+      get-good h z =
+          get-past
+          ∙ judged (refuse s (one id w)) (fillWith s at (one id w)) ThreadGet Done
+          (walked ThreadGet true true true (get-as-readable id common ∙ h) (named-fits id (readable-named id h) (length w) ∙ z) (value-get (contextOf l s ThreadGet) id (one id w) 8 refl))
+
+      pub read-good : isReadable id ≡ true → eqb (length w) (elementOf id .size) ≡ true → readPlain l s g v id w ≡ fillWith s at (one id w)
+      read-good h z = read-past ∙ get-good h z
+
+  -- the value that it read
+  pub filled-value : isReadable id ≡ true → length w ≡ elementOf id .size → valueIn (filled at s (one id w) (countOf (one id w))) (length w) ≡ valueOf at s id
+  filled-value h z =
+      let t = readable-named id h in
+      filled-value-one id (t .entry) (t .listed) (t .scope) at s w (z ∙ element-size id t) (omega (arith, ours-room l so g v j below s o, named-end id t, element-place id t, z))
+      ∙ ap₂ (λ (p n : ℕ). bytesAt s (at + p) n) (sym (element-place id t)) z

@@ -1,0 +1,161 @@
+-- 01, "The L1 cache": the cache, and its write, read and run, each with its refusals in order.
+use Prim.Native.Nat.{ℕ, zero, suc, _+_, _-_, _/_, _%_, _^_}
+use mathlib.Core.Bool.{Bool, not, _&&_, _||_, cond}
+use mathlib.Core.List.{List, [], _∷_, _++_}
+use lib.Bits.{bitOr}
+use lib.Dec.{eqb, ltb}
+use lib.ListN.{length, getD, set}
+use Rattle.octets.specs.Bytes.{bytesAt, put, zeros}
+use Rattle.answer.specs.declared.Bad.the-variants.{Id, Size}
+use Rattle.answer.specs.declared.Place.{Place}
+use Rattle.answer.specs.declared.Fault.{Fault}
+use Rattle.answer.specs.declared.Fault.the-variants.{Length, Element, Cache as CacheBad}
+use Rattle.answer.specs.declared.Answer.{Answer}
+use Rattle.answer.specs.declared.Call.{Call}
+use Rattle.answer.specs.declared.Call.the-variants.{CacheRead}
+use Rattle.answer.specs.Answer.{told}
+use Rattle.answer.specs.Refusals.{firstOf}
+use Rattle.elements.specs.declared.Usage.{Usage}
+use Rattle.elements.specs.declared.Usage.the-variants.{ThreadGet, RunInput}
+use Rattle.elements.specs.declared.Context.{Context}
+use Rattle.elements.specs.Table.{kindOf, numberOf, threadElement}
+use Rattle.elements.specs.Rules.{between, permits}
+use Rattle.gsb.specs.Walk.{countOf, idAt, offsetAt}
+use Rattle.gsb.specs.Message.{message}
+use Rattle.store.specs.declared.Layout.{Layout}
+use Rattle.store.specs.Layout.{slotBytes}
+use Rattle.store.specs.Search.{every}
+use Rattle.transfer.specs.Transfer.{applied}
+use Rattle.exits.specs.Exits.{elementOf, valued}
+use Rattle.l0.specs.Refusals.{Outcome, success, refusal}
+use Rattle.l0.specs.State.{getState}
+use Rattle.l0.specs.Run.{spotTests, exitTests, runVcpu}
+
+-- "1,820 value bytes", laid out as a slot's, "and six lent 64-bit words: three of valid marks, three of changed marks"
+pub record Cache : Type 0 where
+  pub values : List ℕ
+  pub marks : List ℕ
+
+-- "Thread element e (0 to 169 in order of ID) is bit e mod 64, from the most significant, of word e div 64": mark i of all six words
+unfoldable pub isMarked : List ℕ → ℕ → Bool
+isMarked m i = eqb (getD m (i / 64) 0 / 2 ^ (63 - i % 64) % 2) 1
+
+unfoldable pub withMark : List ℕ → ℕ → List ℕ
+withMark m i = set m (i / 64) (bitOr (getD m (i / 64) 0) (2 ^ (63 - i % 64)))
+
+abbrev pub valid : Cache → ℕ → Bool
+valid c e = isMarked (c .marks) e
+
+abbrev pub changed : Cache → ℕ → Bool
+changed c e = isMarked (c .marks) (192 + e)
+
+-- what a use permits depends on no capability
+abbrev pub allowed : Usage → ℕ → Bool
+allowed usage id = permits (record { usage = usage; capabilities = 0 }) id (kindOf id)
+
+-- "6 unless permitted in a run input (NOP too is 6)"
+unfoldable pub isInput : ℕ → Bool
+isInput id = not (eqb id 0x0000) && allowed RunInput id
+
+-- "6 unless readable in a thread get and not 0x0C00, 0x0C01 or the NOP"
+abbrev pub isSpecial : ℕ → Bool
+isSpecial id = eqb id 0x0000 || between 0x0C00 0x0C01 id
+
+unfoldable pub isReadable : ℕ → Bool
+isReadable id = not (isSpecial id) && allowed ThreadGet id
+
+-- "Well formed: right lengths, no mark past 169, every changed element valid and permitted in a run input. Empty: all marks 0."
+unfoldable pub markGood : Cache → ℕ → Bool
+markGood c e = cond (ltb e 170) (not (changed c e) || (valid c e && isInput (threadElement e .id))) (not (valid c e) && not (changed c e))
+
+unfoldable pub goodCache : Cache → Bool
+goodCache c = eqb (length (c .values)) slotBytes && (eqb (length (c .marks)) 6 && every (markGood c) 192 0)
+
+-- ---- "Write: 15; 5 for a value over 65,528 bytes; 6; 7. It stores the value, valid and changed." "Place is 0."
+abbrev pub first : Place
+first = record { index = 0; offset = 0 }
+
+-- 5, then 6 unless the ID is good for the operation, then 7
+abbrev pub valueTests : Bool → ℕ → List ℕ → List (Bool × Fault)
+valueTests good id v = (ltb 65528 (length v), Length) ∷ (not good, Element Id first) ∷ (not (eqb (length v) (elementOf id .size)), Element Size first) ∷ []
+
+pub record Wrote : Type 0 where
+  pub answer : Answer
+  pub cache : Cache
+
+unfoldable pub change : Cache → ℕ → List ℕ → Cache
+change c id v = record { values = put (c .values) (elementOf id .position) v; marks = withMark (withMark (c .marks) (numberOf id)) (192 + numberOf id) }
+
+unfoldable pub writeCache : Cache → ℕ → List ℕ → Wrote
+writeCache c id v =
+    firstOf (λ f. record { answer = refusal f; cache = c })
+    ((not (goodCache c), CacheBad) ∷ valueTests (isInput id) id v)
+    (record { answer = success 0; cache = change c id v })
+
+-- ---- "Read into a lent value buffer: 15, 5, 6, 7; then a valid element comes from the cache, else from get state with that answer,
+-- and after 0 is stored as valid."
+pub record Got : Type 0 where
+  pub answer : Answer
+  pub cache : Cache
+  pub value : List ℕ
+
+-- "Accepted: R3 is 0."
+abbrev pub accepted : Call → Answer → Bool
+accepted c a = eqb (told c (a .fault) (a .value) .r3) 0
+
+unfoldable pub keep : Cache → ℕ → List ℕ → Cache
+keep c id v = record { values = put (c .values) (elementOf id .position) v; marks = withMark (c .marks) (numberOf id) }
+
+-- a buffer of one element, of which a refusal leaves the value as it was
+abbrev pub one : ℕ → List ℕ → List ℕ
+one id v = message ((id, v) ∷ [])
+
+abbrev pub valueIn : List ℕ → ℕ → List ℕ
+valueIn b size = bytesAt b 8 size
+
+unfoldable pub fetched : Cache → ℕ → ℕ → Outcome → Got
+fetched c id size o = record { answer = o .answer; cache = cond (accepted CacheRead (o .answer)) (keep c id (valueIn (o .buffer) size)) c; value = valueIn (o .buffer) size }
+
+unfoldable pub readCache : Layout → List ℕ → ℕ → ℕ → Cache → ℕ → List ℕ → Got
+readCache l s guest vcpu c id v =
+    firstOf (λ f. record { answer = refusal f; cache = c; value = v })
+    ((not (goodCache c), CacheBad) ∷ valueTests (isReadable id) id v)
+    (cond (valid c (numberOf id))
+    (record { answer = success 0; cache = c; value = bytesAt (c .values) (elementOf id .position) (elementOf id .size) })
+    (fetched c id (length v) (getState l s 0 guest vcpu (one id v))))
+
+-- ---- "Run: 15, then a run's order; 12 with R4 0 also if the changed elements need more than the registered input. It writes a count
+-- and them, in order of ID, to the input's first bytes, the rest untouched."
+pub record Ran : Type 0 where
+  pub answer : Answer
+  pub store : List ℕ
+  pub cache : Cache
+  pub input : List ℕ
+  pub output : List ℕ
+
+-- the IDs of the thread elements below n that have p, in order
+unfoldable pub chosen : (ℕ → Bool) → ℕ → List ℕ
+chosen p zero = []
+chosen p (suc n) = chosen p n ++ cond (p n) (threadElement n .id ∷ []) []
+
+abbrev pub pending : Cache → List (ℕ × List ℕ)
+pending c = valued 0 (c .values) (chosen (changed c) 170)
+
+-- "After success all marks clear, then the elements of the output become valid with its values": of n elements of the output b
+unfoldable pub marked : List ℕ → List ℕ → ℕ → List ℕ
+marked m b zero = m
+marked m b (suc n) = withMark (marked m b n) (numberOf (idAt b (offsetAt b n)))
+
+unfoldable pub refreshed : Cache → List ℕ → Cache
+refreshed c b = record { values = applied 0 b (countOf b) (c .values); marks = marked (zeros 6) b (countOf b) }
+
+unfoldable pub ranWith : Cache → List ℕ → Outcome → Ran
+ranWith c input o = record { answer = o .answer; store = o .store; cache = refreshed c (o .buffer); input = input; output = o .buffer }
+
+-- everything is judged first; the changed elements are permitted in an input, so that a run refuses none of them
+unfoldable pub runCache : Layout → List ℕ → Cache → ℕ → ℕ → ℕ → List ℕ → List ℕ → List ℕ → ℕ → Ran
+runCache l s c flags guest vcpu input output effect exit =
+    firstOf (λ f. record { answer = refusal f; store = s; cache = c; input = input; output = output })
+    ((not (goodCache c), CacheBad)
+    ∷ spotTests l s flags guest vcpu (length (message (pending c))) (length input) (length output) ++ exitTests l s effect exit)
+    (ranWith c (put input 0 (message (pending c))) (runVcpu l s flags guest vcpu (put input 0 (message (pending c))) output effect exit))

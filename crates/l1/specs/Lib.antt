@@ -1,0 +1,4 @@
+pub mod Cache
+pub mod Plain
+pub mod Agree
+pub mod Private

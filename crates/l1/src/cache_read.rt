@@ -1,0 +1,89 @@
+// A read of one element into a lent buffer: from the cache where it is valid, else from get state, and then it is kept.
+use super::marks::is_marked;
+use super::marks::is_readable;
+use super::value::element_of;
+use super::value::judge_element;
+use super::value::keep_value;
+use answer::Answer;
+use answer::Call;
+use answer::refusal;
+use answer::registers_of;
+use answer::success;
+use elements::number_of;
+use l0::Admission;
+use l0::get_element;
+use octets::copy;
+ghost use mathlib.Core.Path.{_≡_};
+ghost use mathlib.Core.Bool.{true};
+ghost use lib.ListN.{length};
+ghost use Rattle.store.specs.Layout.{small};
+ghost use Rattle.exits.specs.Exits.{elementOf};
+ghost use Rattle.l0.specs.State.{gotElement};
+ghost use Rattle.l1.specs.Cache.{Got, isReadable, accepted, fetched, readCache};
+ghost use Rattle.l1.specs.Private.{readValue};
+
+fn is_accepted(call: Call, answer: Answer) -> bool
+    ensures { λ r. ⌜ r ≡ accepted call answer ⌝ }
+{
+    registers_of(call, answer).r3 == 0
+}
+
+// An element that is not valid.
+fn fetch(
+    store: &[u8],
+    guest: u64,
+    vcpu: u64,
+    values: &mut [u8],
+    marks: &mut [u64],
+    id: u16,
+    value: &mut [u8],
+) -> Answer
+    requires { ⌜ (isReadable id ≡ true) × (length (now values) ≡ 1820) × (length (now marks) ≡ 6) × (length (now value) ≡ elementOf id .size) ⌝ }
+    ensures { λ r. ⌜ _≡_ {A = Got} (record { answer = r; cache = record { values = now (values .exit); marks = now (marks .exit) }; value = now (value .exit) }) (fetched (record { values = now (values .entry); marks = now (marks .entry) }) id (length (now (value .entry))) (gotElement (now (store .entry)) guest vcpu id (now (value .entry)))) ⌝ }
+{
+    let answer = get_element(store, guest, vcpu, id, value);
+    if !is_accepted(Call::CacheRead, answer) {
+        return answer;
+    }
+    keep_value(values, marks, id, value);
+    answer
+}
+
+// An element that passed its tests.
+fn read_value(
+    store: &[u8],
+    guest: u64,
+    vcpu: u64,
+    values: &mut [u8],
+    marks: &mut [u64],
+    id: u16,
+    value: &mut [u8],
+) -> Answer
+    requires { ⌜ (isReadable id ≡ true) × (length (now values) ≡ 1820) × (length (now marks) ≡ 6) × (length (now value) ≡ elementOf id .size) ⌝ }
+    ensures { λ r. ⌜ _≡_ {A = Got} (record { answer = r; cache = record { values = now (values .exit); marks = now (marks .exit) }; value = now (value .exit) }) (readValue (now (store .entry)) guest vcpu (record { values = now (values .entry); marks = now (marks .entry) }) id (now (value .entry))) ⌝ }
+{
+    if !is_marked(marks, number_of(id)) {
+        return fetch(store, guest, vcpu, values, marks, id, value);
+    }
+    let x = element_of(id);
+    copy(values, x.position, value, 0, x.size);
+    success(0)
+}
+
+pub fn read(
+    store: &[u8],
+    guest: u64,
+    vcpu: u64,
+    values: &mut [u8],
+    marks: &mut [u64],
+    id: u16,
+    value: &mut [u8],
+) -> Answer
+    ensures { λ r. ⌜ _≡_ {A = Got} (record { answer = r; cache = record { values = now (values .exit); marks = now (marks .exit) }; value = now (value .exit) }) (readCache small (now (store .entry)) guest vcpu (record { values = now (values .entry); marks = now (marks .entry) }) id (now (value .entry))) ⌝ }
+{
+    match judge_element(values, marks, is_readable(id), id, value) {
+        Admission::Refused(fault) => return refusal(fault),
+        Admission::Admitted => {}
+    }
+    read_value(store, guest, vcpu, values, marks, id, value)
+}

@@ -1,0 +1,21 @@
+// A write of one element: its value is kept, valid and changed, until the next run sends it.
+use super::marks::is_input;
+use super::value::change_value;
+use super::value::judge_element;
+use answer::Answer;
+use answer::refusal;
+use answer::success;
+use l0::Admission;
+ghost use mathlib.Core.Path.{_≡_};
+ghost use Rattle.l1.specs.Cache.{Wrote, writeCache};
+
+pub fn write(values: &mut [u8], marks: &mut [u64], id: u16, value: &[u8]) -> Answer
+    ensures { λ r. ⌜ _≡_ {A = Wrote} (record { answer = r; cache = record { values = now (values .exit); marks = now (marks .exit) } }) (writeCache (record { values = now (values .entry); marks = now (marks .entry) }) id (now (value .entry))) ⌝ }
+{
+    match judge_element(values, marks, is_input(id), id, value) {
+        Admission::Refused(fault) => return refusal(fault),
+        Admission::Admitted => {}
+    }
+    change_value(values, marks, id, value);
+    success(0)
+}
