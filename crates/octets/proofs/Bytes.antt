@@ -225,6 +225,11 @@ module _ (d : List ℕ) (to : ℕ) (s : List ℕ) (from : ℕ) where
       → y ≡ put x (to + j) (bytesAt s (from + j) m) → y ≡ put d to (bytesAt s from (j + m))
   copy-part x j y m p h q = q ∙ ap (λ (l : List ℕ). put l (to + j) (bytesAt s (from + j) m)) p ∙ put-part d to s from j m h
 
+  -- two pieces of 8
+  pub copy-two : (x y : List ℕ) → x ≡ put d to (bytesAt s from 8) → y ≡ put x (to + 8) (bytesAt s (from + 8) 8) → from + 16 ≤ length s
+      → y ≡ put d to (bytesAt s from 16)
+  copy-two x y p q h = copy-part x 8 y 8 p (omega arith) q
+
   -- three pieces, of i, of j and of what is left
   pub copy-pieces : (x y z : List ℕ) (i j n : ℕ) → x ≡ put d to (bytesAt s from i) → y ≡ put x (to + i) (bytesAt s (from + i) j)
       → z ≡ put y (to + (i + j)) (bytesAt s (from + (i + j)) (n - (i + j))) → i ≤ n → j ≤ n - i → from + n ≤ length s
@@ -242,6 +247,11 @@ module _ (d : List ℕ) (to : ℕ) (s : List ℕ) (from : ℕ) where
   copy-all x j n p l h =
       let e : j ≡ n = omega arith in
       p ∙ ap (λ (k : ℕ). put d to (bytesAt s from k)) e
+
+-- a copy whose size n turns out to be m
+pub copy-known : (m : ℕ) (d : List ℕ) (to : ℕ) (s : List ℕ) (from n : ℕ) (y : List ℕ) → n ≡ m → y ≡ put d to (bytesAt s from m)
+    → y ≡ put d to (bytesAt s from n)
+copy-known m d to s from n y e p = p ∙ ap (λ (k : ℕ). put d to (bytesAt s from k)) (sym e)
 
 module _ (d : List ℕ) (at : ℕ) where
   pub zeros-none : d ≡ put d at (zeros 0)

@@ -163,29 +163,6 @@ pub read-more : (s : List ℕ) (at i v x : ℕ) → v ≡ be s at i → x ≡ ge
 unfolding be
 read-more s at i v x p e = ap₂ (λ (y z : ℕ). y * 256 + z) p e ∙ ap (λ (k : ℕ). be s at k) (sym (add-one i))
 
-pub read-lt : (i v x : ℕ) → v < 256 ^ i → x < 256 → v * 256 + x < 256 ^ (i + 1)
-read-lt i v x p q = subst (λ (y : ℕ). v * 256 + x < y) (sym (ap (λ (k : ℕ). 256 ^ k) (add-one i) ∙ pow-suc 256 i)) (A.digits-lt p q)
-
--- fewer than 4 bytes leave room for one more in a word
-room : (i n v : ℕ) → i < n → n ≤ 4 → v < 256 ^ i → v < 2 ^ 24
-room i n v h l p =
-    let m : i ≤ 3 = omega arith in
-    lt-of-lt-of-le p (pow-le-pow-right {n = 256} (omega arith) m)
-
-pub read-mul : (i n v : ℕ) → i < n → n ≤ 4 → v < 256 ^ i → Fits w64 (v * 256)
-read-mul i n v h l p = omega (arith, room i n v h l p)
-
-pub read-add : (i n v x : ℕ) → i < n → n ≤ 4 → v < 256 ^ i → x < 256 → Fits w64 (v * 256 + x)
-read-add i n v x h l p q = omega (arith, room i n v h l p)
-
-pub read-all : (s : List ℕ) (at i n v : ℕ) → v ≡ be s at i → i ≤ n → n ≤ i → v ≡ be s at n
-read-all s at i n v p l h =
-    let e : i ≡ n = omega arith in
-    p ∙ ap (λ (k : ℕ). be s at k) e
-
-pub read-all-lt : (i n v : ℕ) → v < 256 ^ i → i ≤ n → v < 256 ^ n
-read-all-lt i n v p l = lt-of-lt-of-le p (pow-le-pow-right {n = 256} (omega arith) l)
-
 -- a number read, and one written, in two pieces: n and m stand first, for a caller to name
 pub be-join : (n m : ℕ) (s : List ℕ) (i a b : ℕ) → a ≡ be s i n → b ≡ be s (i + n) m → a * 256 ^ m + b ≡ be s i (n + m)
 be-join n m s i a b p q = ap₂ (λ (x y : ℕ). x * 256 ^ m + y) p q ∙ sym (be-add s i n m)
@@ -198,6 +175,22 @@ put-join n m s i v x y p q =
     ∙ ap (λ (k : ℕ). put (put s i (digits n (v / 256 ^ m))) (i + k) (digits m v)) (sym (length-digits n (v / 256 ^ m)))
     ∙ sym (put-append s i (digits n (v / 256 ^ m)) (digits m v))
     ∙ ap (λ (w : List ℕ). put s i w) (sym (digits-add n m v))
+
+-- a number of 4 bytes with its halves turned, and the bound of the second
+halves : (s : List ℕ) (at : ℕ) → ((k : ℕ) → Fits w8 (getD s k 0)) → (be s at 2 < 65536) × (be s (at + 2) 2 < 65536)
+halves s at b = (be-lt s at 2 (λ k h. b (at + k) .fits), be-lt s (at + 2) 2 (λ k h. b (at + 2 + k) .fits))
+
+pub turned : (s : List ℕ) (at w : ℕ) → ((k : ℕ) → Fits w8 (getD s k 0)) → w ≡ be s at 4
+    → w % 65536 * 65536 + w / 65536 ≡ be s (at + 2) 2 * 2 ^ 16 + be s at 2
+turned s at w b e =
+    let h = halves s at b in
+    let q : w ≡ be s at 2 * 65536 + be s (at + 2) 2 = e ∙ be-add s at 2 2 in
+    let low : w % 65536 ≡ be s (at + 2) 2 = omega (arith, q, h .1) in
+    let high : w / 65536 ≡ be s at 2 = omega (arith, q, h .1) in
+    ap₂ (λ (x y : ℕ). x * 65536 + y) low high
+
+pub turned-lt : (s : List ℕ) (at : ℕ) → ((k : ℕ) → Fits w8 (getD s k 0)) → be s at 2 < 2 ^ 16
+turned-lt s at b = halves s at b .0
 
 -- a number of one byte
 pub put-digit : (s : List ℕ) (i v : ℕ) → v < 256 → set s i v ≡ put s i (digits 1 v)

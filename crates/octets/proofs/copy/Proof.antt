@@ -1,58 +1,58 @@
--- Rests on `copy-pieces`: what the three callees copy lies side by side.
+-- Rests on `copy-known`: each test tells the size.
 use borrow.Author.Needs.{needs}
-use Rattle.octets.proofs.Bytes.{copy-pieces}
+use Rattle.octets.proofs.Bytes.{copy-known}
 use Rattle.octets.proofs.copy.Statement.{statement}
 use Rattle.octets.proofs.copy.Tie as tie
 
-copy-words-requires : tie.Need-copy-words-requires
-copy-words-requires c κs = search needs
-
-add-copy-half : tie.Need-add-copy-half
-add-copy-half c = search needs
-
-add-copy-half-2 : tie.Need-add-copy-half-2
-add-copy-half-2 c = search needs
-
-sub-copy-half : tie.Need-sub-copy-half
-sub-copy-half c = search needs
-
-copy-half-requires : tie.Need-copy-half-requires
-copy-half-requires c κs = search needs
-
-add-j : tie.Need-add-j
-add-j c = search needs
-
-add-copy-bytes : tie.Need-add-copy-bytes
-add-copy-bytes c = search needs
-
-add-copy-bytes-2 : tie.Need-add-copy-bytes-2
-add-copy-bytes-2 c = search needs
-
-sub-copy-bytes : tie.Need-sub-copy-bytes
-sub-copy-bytes c = search needs
-
-copy-bytes-requires : tie.Need-copy-bytes-requires
-copy-bytes-requires c κs = search needs
+copy8-requires : tie.Need-copy8-requires
+copy8-requires c κs = search needs
 
 same-length : tie.Need-same-length
 same-length c = search needs
 
 returns : tie.Need-returns
-returns c = search (needs, copy-pieces)
+returns c = search (needs, copy-known 8)
+
+copy16-requires : tie.Need-copy16-requires
+copy16-requires c κs = search needs
+
+same-length-2 : tie.Need-same-length-2
+same-length-2 c = search needs
+
+returns-2 : tie.Need-returns-2
+returns-2 c = search (needs, copy-known 16)
+
+copy4-requires : tie.Need-copy4-requires
+copy4-requires c κs = search needs
+
+same-length-3 : tie.Need-same-length-3
+same-length-3 c = search needs
+
+returns-3 : tie.Need-returns-3
+returns-3 c = search (needs, copy-known 4)
+
+copy-any-requires : tie.Need-copy-any-requires
+copy-any-requires c κs = search needs
+
+same-length-4 : tie.Need-same-length-4
+same-length-4 c = search needs
+
+returns-4 : tie.Need-returns-4
+returns-4 c = search needs
 
 pub copy-spec : {M : Type 1} → statement M
 copy-spec =
     tie.close
     (tie.spec
-    copy-words-requires
-    add-copy-half
-    add-copy-half-2
-    sub-copy-half
-    copy-half-requires
-    add-j
-    add-copy-bytes
-    add-copy-bytes-2
-    sub-copy-bytes
-    copy-bytes-requires
+    copy8-requires
     same-length
-    returns)
+    returns
+    copy16-requires
+    same-length-2
+    returns-2
+    copy4-requires
+    same-length-3
+    returns-3
+    copy-any-requires
+    same-length-4
+    returns-4)

@@ -1,6 +1,6 @@
 -- The part that is handed back (`first-lent`).
-use Rattle.octets.proofs.Bytes.{first-lent}
 use borrow.Author.Needs.{needs}
+use Rattle.octets.proofs.Bytes.{first-lent}
 use Rattle.octets.proofs.first_bytes.Statement.{statement}
 use Rattle.octets.proofs.first_bytes.Tie as tie
 

@@ -1,42 +1,17 @@
--- Rests on `be-join`: a number is its two halves.
+-- Rests on `get8`: swapped twice, a number is itself.
 use borrow.Author.Needs.{needs}
-use Rattle.octets.proofs.Numbers.{be-join}
+use Rattle.octets.proofs.Swaps.{get8}
 use Rattle.octets.proofs.get64.Statement.{statement}
 use Rattle.octets.proofs.get64.Tie as tie
 
-get32-requires : tie.Need-get32-requires
-get32-requires c κs = search needs
+octet-requires : tie.Need-octet-requires
+octet-requires c κs = search needs
 
-cast-result : tie.Need-cast-result
-cast-result c = search needs
-
-mul-result : tie.Need-mul-result
-mul-result c = search needs
-
-add-get32 : tie.Need-add-get32
-add-get32 c = search needs
-
-get32-requires-2 : tie.Need-get32-requires-2
-get32-requires-2 c κs = search needs
-
-cast-result-2 : tie.Need-cast-result-2
-cast-result-2 c = search needs
-
-add-result : tie.Need-add-result
-add-result c = search needs
+swap64-requires : tie.Need-swap64-requires
+swap64-requires c κs = search needs
 
 returns : tie.Need-returns
-returns c = search (needs, be-join 4 4)
+returns c = search (needs, get8)
 
 pub get64-spec : {M : Type 1} → statement M
-get64-spec =
-    tie.close
-    (tie.spec
-    get32-requires
-    cast-result
-    mul-result
-    add-get32
-    get32-requires-2
-    cast-result-2
-    add-result
-    returns)
+get64-spec = tie.close (tie.spec octet-requires swap64-requires returns)

@@ -1,32 +1,20 @@
--- Rests on `put-join`: writing a number is writing its two halves; a half is one byte here.
-use native.Mathlib.Omega.{arith}
-use lib.ListN.{length-set}
+-- Rests on `put2`: swapped twice, a number is itself.
 use borrow.Author.Needs.{needs}
-use Rattle.octets.proofs.Numbers.{put-digit, put-join}
+use Rattle.octets.proofs.Swaps.{put2}
 use Rattle.octets.proofs.put16.Statement.{statement}
 use Rattle.octets.proofs.put16.Tie as tie
 
-cast-s : tie.Need-cast-s
-cast-s c = search needs
+swap16-requires : tie.Need-swap16-requires
+swap16-requires c κs = search needs
 
-slice-write-s : tie.Need-slice-write-s
-slice-write-s c = search needs
-
-cast-s-2 : tie.Need-cast-s-2
-cast-s-2 c = search needs
-
-add-s : tie.Need-add-s
-add-s c = search needs
-
-slice-write-s-2 : tie.Need-slice-write-s-2
-slice-write-s-2 c = simp length-set (omega arith)
+put-pair-requires : tie.Need-put-pair-requires
+put-pair-requires c κs = search needs
 
 same-length : tie.Need-same-length
 same-length c = search needs
 
 returns : tie.Need-returns
-returns c = put-join 1 1 _ _ _ _ _ (put-digit _ _ _ (omega arith)) (put-digit _ _ _ (omega arith))
+returns c = search (needs, put2)
 
 pub put16-spec : {M : Type 1} → statement M
-put16-spec =
-    tie.close (tie.spec cast-s slice-write-s cast-s-2 add-s slice-write-s-2 same-length returns)
+put16-spec = tie.close (tie.spec swap16-requires put-pair-requires same-length returns)

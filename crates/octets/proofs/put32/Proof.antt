@@ -1,38 +1,20 @@
--- Rests on `put-join`: writing a number is writing its two halves.
+-- Rests on `put4`: swapped twice, a number is itself.
 use borrow.Author.Needs.{needs}
-use Rattle.octets.proofs.Numbers.{put-join}
+use Rattle.octets.proofs.Swaps.{put4}
 use Rattle.octets.proofs.put32.Statement.{statement}
 use Rattle.octets.proofs.put32.Tie as tie
 
-cast-put16 : tie.Need-cast-put16
-cast-put16 c = search needs
+swap32-requires : tie.Need-swap32-requires
+swap32-requires c κs = search needs
 
-put16-requires : tie.Need-put16-requires
-put16-requires c κs = search needs
-
-add-put16 : tie.Need-add-put16
-add-put16 c = search needs
-
-cast-put16-2 : tie.Need-cast-put16-2
-cast-put16-2 c = search needs
-
-put16-requires-2 : tie.Need-put16-requires-2
-put16-requires-2 c κs = search needs
+put-quad-requires : tie.Need-put-quad-requires
+put-quad-requires c κs = search needs
 
 same-length : tie.Need-same-length
 same-length c = search needs
 
 returns : tie.Need-returns
-returns c = search (needs, put-join 2 2)
+returns c = search (needs, put4)
 
 pub put32-spec : {M : Type 1} → statement M
-put32-spec =
-    tie.close
-    (tie.spec
-    cast-put16
-    put16-requires
-    add-put16
-    cast-put16-2
-    put16-requires-2
-    same-length
-    returns)
+put32-spec = tie.close (tie.spec swap32-requires put-quad-requires same-length returns)

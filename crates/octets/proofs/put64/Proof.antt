@@ -1,38 +1,20 @@
--- Rests on `put-join`: writing a number is writing its two halves.
+-- Rests on `put8`: swapped twice, a number is itself.
 use borrow.Author.Needs.{needs}
-use Rattle.octets.proofs.Numbers.{put-join}
+use Rattle.octets.proofs.Swaps.{put8}
 use Rattle.octets.proofs.put64.Statement.{statement}
 use Rattle.octets.proofs.put64.Tie as tie
 
-cast-put32 : tie.Need-cast-put32
-cast-put32 c = search needs
+swap64-requires : tie.Need-swap64-requires
+swap64-requires c κs = search needs
 
-put32-requires : tie.Need-put32-requires
-put32-requires c κs = search needs
-
-add-put32 : tie.Need-add-put32
-add-put32 c = search needs
-
-cast-put32-2 : tie.Need-cast-put32-2
-cast-put32-2 c = search needs
-
-put32-requires-2 : tie.Need-put32-requires-2
-put32-requires-2 c κs = search needs
+put-octet-requires : tie.Need-put-octet-requires
+put-octet-requires c κs = search needs
 
 same-length : tie.Need-same-length
 same-length c = search needs
 
 returns : tie.Need-returns
-returns c = search (needs, put-join 4 4)
+returns c = search (needs, put8)
 
 pub put64-spec : {M : Type 1} → statement M
-put64-spec =
-    tie.close
-    (tie.spec
-    cast-put32
-    put32-requires
-    add-put32
-    cast-put32-2
-    put32-requires-2
-    same-length
-    returns)
+put64-spec = tie.close (tie.spec swap64-requires put-octet-requires same-length returns)
