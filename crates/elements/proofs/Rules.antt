@@ -3,10 +3,12 @@ use mathlib.Core.Path.{_≡_, refl, sym, ap, _∙_}
 use mathlib.Core.Logic.{_⊎_, inl, inr}
 use mathlib.Core.Bool.{Bool, true, false, not, _&&_, _||_, false≢true}
 use mathlib.Core.List.{List}
-use Prim.Native.Nat.{ℕ, _≤_}
+use Prim.Native.Nat.{ℕ, _≤_, _<_}
 use native.Mathlib.Omega.{arith}
-use borrow.Author.Tests.{ne-eqb, eqb-true, not-true}
+use borrow.Author.Tests.{lt-leb, ne-eqb, eqb-true, not-true}
+use Rattle.elements.specs.declared.Access.the-variants.{ReadWrite}
 use Rattle.elements.specs.declared.Entry.{Entry}
+use Rattle.elements.specs.declared.Source.the-variants.{Stored}
 use Rattle.elements.specs.declared.Kind.{Kind}
 use Rattle.elements.specs.declared.Kind.the-variants.{Unlisted, Nop, Listed}
 use Rattle.elements.specs.declared.Scope.{Scope}
@@ -16,6 +18,7 @@ use Rattle.elements.specs.declared.Usage.the-variants.{GuestGet, GuestSe
 use Rattle.elements.specs.declared.Context.{Context}
 use Rattle.elements.specs.Table.{table, below, position, sourceOf, find, sameScope, isStored, kindOf}
 use Rattle.elements.proofs.Table.{T-true, entry-rule, thread-stored}
+use Rattle.elements.specs.Private.{threadKind, ofThread}
 use Rattle.elements.specs.Rules.{between, writable, allows, permits, sizeFits, isSetting, ruleOf, goodValue}
 
 pub or-false : (t : Bool) → t || false ≡ t
@@ -179,3 +182,26 @@ pub value-effect : (k : Context) (id : ℕ) (b : List ℕ) (at : ℕ) → k .usa
     → goodValue k id b at ≡ true
 unfolding permits allows kindOf find table sourceOf position below
 value-effect k id b at p e = unruled Effect (λ c. refl) (λ c. refl) (λ c. refl) k id b at p e
+
+-- ---- what every use of a vCPU permits
+
+and-false : (t : Bool) → t && false ≡ false
+and-false true = refl
+and-false false = refl
+
+beyond : (low high id : ℕ) → high < id → not (between low high id) ≡ true
+beyond low high id h = simp (lt-leb _ _ h, and-false)
+
+pub permits-register : (k : Context) (id n p : ℕ) → true ≡ ofThread (k .usage) → 0x1000 ≤ id
+    → permits k id (threadKind n ReadWrite p) ≡ true
+unfolding permits allows
+permits-register k id n p t h = go (k .usage) t
+  where
+    go : (u : Usage) → true ≡ ofThread u
+        → allows u id (record { size = n; access = ReadWrite; scope = Thread; source = Stored p }) ≡ true
+    go GuestGet t = absurd (false≢true (sym t))
+    go GuestSet t = absurd (false≢true (sym t))
+    go ThreadGet t = refl
+    go ThreadSet t = refl
+    go RunInput t = beyond 0x0C00 0x0C01 id (omega arith)
+    go Effect t = beyond 0x0C00 0x0C02 id (omega arith)

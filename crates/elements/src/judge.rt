@@ -13,6 +13,7 @@ ghost use Prim.Native.Nat.{_+_, _≤_};
 ghost use lib.ListN.{length};
 ghost use Rattle.elements.specs.Table.{kindOf, sameScope};
 ghost use Rattle.elements.specs.Rules.{between, readable, writable, allows, permits, sizeFits};
+ghost use Rattle.elements.specs.Private.{ofThread};
 ghost use Rattle.elements.specs.Rules.{goodInput, goodOutput, goodPvr, ruleOf, isSetting, goodValue};
 
 fn in_guest(s: Scope) -> bool
@@ -53,7 +54,7 @@ fn may_write(a: Access) -> bool
     }
 }
 
-fn within(low: u64, high: u64, n: u64) -> bool
+pub fn within(low: u64, high: u64, n: u64) -> bool
     ensures { λ r. ⌜ r ≡ between low high n ⌝ }
 {
     if n < low {
@@ -166,4 +167,18 @@ pub fn good_value(k: Context, id: u16, size: usize, b: &[u8], at: usize) -> bool
         return true;
     }
     meets_rule(capabilities, id, size, b, at)
+}
+
+// Whether a use is about a vCPU.
+pub fn of_thread(usage: Usage) -> bool
+    ensures { λ r. ⌜ r ≡ ofThread usage ⌝ }
+{
+    match usage {
+        Usage::GuestGet => false,
+        Usage::GuestSet => false,
+        Usage::ThreadGet => true,
+        Usage::ThreadSet => true,
+        Usage::RunInput => true,
+        Usage::Effect => true,
+    }
 }

@@ -93,12 +93,15 @@ nop-value : (k : Context) (b : List ℕ) (at : ℕ) → goodValue k 0 b at ≡ t
 unfolding goodValue ruleOf
 nop-value k b at = or-true (not (isSetting (k .usage)))
 
-pub judged-empty : (k : Context) (b : List ℕ) (at w : ℕ) → 4 ≤ length b - at → w ≡ be b at 4 → w ≡ 0 → Good (at + 4) ≡ judged k b at
+pub empty-good : (k : Context) (b : List ℕ) (at : ℕ) → 4 ≤ length b - at → idAt b at ≡ 0 → sizeAt b at ≡ 0
+    → Good (at + 4) ≡ judged k b at
 unfolding permits sizeFits
-judged-empty k b at w room e z =
-    let p = empty-parts b at w e z in
+empty-good k b at room i s =
     let n : at + 4 ≡ at + 4 + 0 = omega arith in
-    ap Good n ∙ judged-good k b at 0 0 Nop room (sym (p .0)) (sym (p .1)) (sym nop) true refl refl true refl refl (omega arith) (goodValue k 0 b (at + 4)) refl (ap not (nop-value k b (at + 4)))
+    ap Good n ∙ judged-good k b at 0 0 Nop room (sym i) (sym s) (sym nop) true refl refl true refl refl (omega arith) (goodValue k 0 b (at + 4)) refl (ap not (nop-value k b (at + 4)))
+
+pub judged-empty : (k : Context) (b : List ℕ) (at w : ℕ) → 4 ≤ length b - at → w ≡ be b at 4 → w ≡ 0 → Good (at + 4) ≡ judged k b at
+judged-empty k b at w room e z = let p = empty-parts b at w e z in empty-good k b at room (p .0) (p .1)
 
 -- ---- what a good element is
 pub record GoodElement (k : Context) (b : List ℕ) (at : ℕ) : Type 0 where

@@ -1,5 +1,6 @@
 mod Tests
 pub mod Judged
+pub mod Quick
 pub mod Walks
 pub mod Lookups
 pub mod First

@@ -1,3 +1,4 @@
 pub mod Walk
 pub mod Lookup
 pub mod Message
+pub mod Private

@@ -6,14 +6,19 @@ use answer::Place;
 use elements::Context;
 use elements::good_value;
 use elements::kind_of;
+use elements::of_thread;
 use elements::permitted;
 use elements::right_size;
+use elements::within;
+use octets::get_turned;
 use octets::get16;
 use octets::get32;
 ghost use mathlib.Core.Path.{_≡_};
 ghost use Prim.Native.Nat.{_+_, _≤_, _<_};
 ghost use lib.ListN.{length};
 ghost use Rattle.gsb.specs.declared.Walked.the-variants.{Done};
+ghost use Rattle.elements.specs.Private.{ofThread};
+ghost use Rattle.gsb.specs.Private.{Hasty};
 ghost use Rattle.gsb.specs.Walk.{badLength, judged, after, firstBad};
 
 pub fn bad_length(b: &[u8]) -> bool
@@ -64,19 +69,63 @@ fn stop(verdict: Verdict, index: usize, offset: usize) -> Walked
     }
 }
 
+// The registers but PPR, which every use of a vCPU permits and no value rule names, and an empty NOP: good by one read if
+// `thread` says that the use is one and they lie well inside the buffer. A fault is no verdict: it leaves them to `judge`.
+fn quick(b: &[u8], at: usize, thread: bool) -> Verdict
+    requires { ⌜ at ≤ length (now b) ⌝ }
+    ensures { λ r. ⌜ Hasty r thread (now (b .entry)) at ⌝ }
+{
+    if !thread {
+        return Verdict::Faulty(Bad::Size);
+    }
+    if b.len() - at < 20 {
+        return Verdict::Faulty(Bad::Size);
+    }
+    let key = get_turned(b, at) as u64;
+    if within(0x8_1000, 0x8_1039, key) {
+        return Verdict::Good(at + 12);
+    }
+    if within(0x10_3000, 0x10_303F, key) {
+        return Verdict::Good(at + 20);
+    }
+    if within(0x8_103B, 0x8_1053, key) {
+        return Verdict::Good(at + 12);
+    }
+    if within(0x4_2000, 0x4_200E, key) {
+        return Verdict::Good(at + 8);
+    }
+    if key == 0 {
+        return Verdict::Good(at + 4);
+    }
+    Verdict::Faulty(Bad::Size)
+}
+
+fn judge_next(b: &[u8], at: usize, k: Context, thread: bool) -> Verdict
+    requires { ⌜ (at ≤ length (now b)) × (thread ≡ ofThread (k .usage)) ⌝ }
+    ensures { λ r. ⌜ r ≡ judged k (now (b .entry)) at ⌝ }
+{
+    let verdict = quick(b, at, thread);
+    match verdict {
+        Verdict::Good(next) => Verdict::Good(next),
+        Verdict::Faulty(_) => judge(b, at, k),
+    }
+}
+
 // The count is never trusted: the walk leaves at the first header that does not fit.
 pub fn first_bad(b: &[u8], k: Context) -> Walked
     requires { ⌜ 4 ≤ length (now b) ⌝ }
     ensures { λ r. ⌜ r ≡ firstBad k (now (b .entry)) ⌝ }
 {
     let count = get32(b, 0) as usize;
+    let usage = k.usage;
+    let thread = of_thread(usage);
     let mut at = 4;
     let mut i = 0;
     let end = 'walk: loop {
         if count <= i {
             break 'walk Walked::Done;
         }
-        let verdict = judge(b, at, k);
+        let verdict = judge_next(b, at, k, thread);
         let Verdict::Good(next) = verdict else {
             break 'walk stop(verdict, i, at);
         };

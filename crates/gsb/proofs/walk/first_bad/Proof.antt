@@ -10,10 +10,10 @@ use Rattle.gsb.proofs.walk.first_bad.Statement.{statement}
 use Rattle.gsb.proofs.walk.first_bad.Tie as tie
 
 abbrev Inv-walk : tie.InvT-walk
-Inv-walk b k count at₀ i₀ at i = (i ≤ count) × (at ≤ length b) × (firstBad k b ≡ walk (judged k b) (count - i) i at)
+Inv-walk b k count thread at₀ i₀ at i = (i ≤ count) × (at ≤ length b) × (firstBad k b ≡ walk (judged k b) (count - i) i at)
 
 abbrev μ-walk : tie.MeasureT-walk
-μ-walk b k count at₀ i₀ at i = count - i
+μ-walk b k count thread at₀ i₀ at i = count - i
 
 get32-requires : tie.Need-get32-requires Inv-walk μ-walk
 get32-requires c κs = search needs
@@ -21,11 +21,14 @@ get32-requires c κs = search needs
 cast-count : tie.Need-cast-count Inv-walk μ-walk
 cast-count c = search needs
 
+of-thread-requires : tie.Need-of-thread-requires Inv-walk μ-walk
+of-thread-requires c κs = search needs
+
 walk-holds : tie.Need-walk-holds Inv-walk μ-walk
 walk-holds c = (search needs, search needs, search (needs, first-start))
 
-judge-requires : tie.Need-judge-requires Inv-walk μ-walk
-judge-requires c κs = search needs
+judge-next-requires : tie.Need-judge-next-requires Inv-walk μ-walk
+judge-next-requires c κs = search needs
 
 enum-known-verdict : tie.Need-enum-known-verdict Inv-walk μ-walk
 enum-known-verdict c = search needs
@@ -59,8 +62,9 @@ first-bad-spec =
     μ-walk
     get32-requires
     cast-count
+    of-thread-requires
     walk-holds
-    judge-requires
+    judge-next-requires
     enum-known-verdict
     enum-told
     stop-requires
