@@ -1,4 +1,5 @@
 pub mod Moving
+pub mod Registers
 pub mod Filling
 pub mod Accepted
 pub mod Named

@@ -9,16 +9,22 @@ use lib.ListN.{length}
 use Rattle.octets.specs.Bytes.{bytesAt, put, be, digits}
 use Rattle.octets.proofs.Bytes.{length-put, length-bytesAt}
 use Rattle.octets.proofs.Numbers.{length-digits}
+use Rattle.elements.specs.declared.Access.{Access}
+use Rattle.elements.specs.declared.Scope.the-variants.{Thread}
 use Rattle.elements.specs.declared.Source.{Source}
 use Rattle.elements.specs.declared.Source.the-variants.{Fixed, Stored}
 use Rattle.elements.specs.declared.Entry.{Entry}
 use Rattle.elements.specs.declared.Kind.{Kind}
 use Rattle.elements.specs.declared.Kind.the-variants.{Unlisted, Nop, Listed}
 use Rattle.elements.specs.Table.{kindOf}
+use Rattle.elements.specs.Private.{threadKind}
 use Rattle.gsb.specs.Walk.{countOf, idAt, sizeAt, nextAt, offsetAt}
 use Rattle.gsb.proofs.Judged.{empty-parts, nop}
 use Rattle.gsb.proofs.Walks.{offset-next}
 use Rattle.transfer.specs.Transfer.{valueAt, putFrom, putAs, applied, readFrom, fillAs, Fits, Moves, Ready, AllReady}
+
+abbrev entry : ℕ → Access → ℕ → Entry
+entry n a p = record { size = n; access = a; scope = Thread; source = Stored p }
 
 -- ---- by the source
 module _ (source : Source) (base size len : ℕ) where
@@ -132,6 +138,33 @@ module _ (b : List ℕ) (at base len size id : ℕ) (kind : Kind) (i : id ≡ id
 
   pub filled-element : (s u : List ℕ) → u ≡ fillAs kind base s at b → u ≡ fillAs (kindOf (idAt b at)) base s at b
   filled-element s u h = h ∙ ap (λ (k : Kind). fillAs k base s at b) (t ∙ ap kindOf i)
+
+-- ---- a register, by the range that its ID is in: its kind k is known, and so are its size and its place
+module _ (b : List ℕ) (at base len id : ℕ) (i : id ≡ idAt b at) (r : Ready base b at len) (n p : ℕ) (a : Access)
+    (e : threadKind n a p ≡ kindOf id) where
+  known : kindOf (idAt b at) ≡ threadKind n a p
+  known = ap kindOf (sym i) ∙ sym e
+
+  known-size : sizeAt b at ≡ n
+  known-size = moves-size (kindOf (idAt b at)) base (sizeAt b at) len (entry n a p) (r .moves) known
+
+  pub register-fits : (base + p + n ≤ len) × (at + 4 + n ≤ length b) × (at + 4 + n ≡ nextAt b at)
+  register-fits =
+      let s : sizeAt b at ≡ n = known-size in
+      let f : base + p + sizeAt b at ≤ len = moves-fits (kindOf (idAt b at)) base (sizeAt b at) len (entry n a p) (r .moves) known in
+      (omega arith, omega (arith, r .inside), omega arith)
+
+  pub register-stored : (s u : List ℕ) → u ≡ put s (base + p) (bytesAt b (at + 4) n) → u ≡ putAs (kindOf (idAt b at)) base (valueAt b at) s
+  register-stored s u h =
+      as-listed (kindOf (idAt b at)) base (valueAt b at) s (entry n a p) u known
+      (put-stored (Stored p) base (valueAt b at) s p u refl
+      (h ∙ ap (λ (m : ℕ). put s (base + p) (bytesAt b (at + 4) m)) (sym known-size)))
+
+  pub register-filled : (s u : List ℕ) → u ≡ put b (at + 4) (bytesAt s (base + p) n) → u ≡ fillAs (kindOf (idAt b at)) base s at b
+  register-filled s u h =
+      fill-listed (kindOf (idAt b at)) base s at b (entry n a p) (sizeAt b at) len u (r .moves) known
+      (fill-stored (Stored p) base (sizeAt b at) s b (at + 4) u p refl
+      (h ∙ ap (λ (m : ℕ). put b (at + 4) (bytesAt s (base + p) m)) (sym known-size)))
 
 -- ---- the loop that stores
 pub ready-at : (base : ℕ) (b : List ℕ) (len count i at m : ℕ) → AllReady base b len → count ≡ countOf b → i < count → at ≡ offsetAt b i → m ≡ len → Ready base b at m

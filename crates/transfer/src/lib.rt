@@ -3,6 +3,7 @@
 use elements::Kind;
 use elements::Source;
 use elements::kind_of;
+use elements::within;
 use octets::copy;
 use octets::get16;
 use octets::get32;
@@ -40,7 +41,7 @@ fn put_as(kind: Kind, store: &mut [u8], base: usize, b: &[u8], from: usize, size
 }
 
 // Stores the element at `at`, and returns where the next starts. An empty NOP is told by one read.
-fn store_element(store: &mut [u8], base: usize, b: &[u8], at: usize) -> usize
+fn store_other(store: &mut [u8], base: usize, b: &[u8], at: usize) -> usize
     requires { ⌜ Ready base (now b) at (length (now store)) ⌝ }
     ensures { λ r. ⌜ (r ≡ nextAt (now (b .entry)) at) × (now (store .exit) ≡ putAs (kindOf (idAt (now (b .entry)) at)) base (valueAt (now (b .entry)) at) (now (store .entry))) ⌝ }
 {
@@ -50,6 +51,27 @@ fn store_element(store: &mut [u8], base: usize, b: &[u8], at: usize) -> usize
     let size = get16(b, at + 2) as usize;
     put_as(kind_of(get16(b, at)), store, base, b, at + 4, size);
     at + 4 + size
+}
+
+// The same; the three ranges of registers come first, by their listed sizes: the next element does not wait for this one's.
+fn store_element(store: &mut [u8], base: usize, b: &[u8], at: usize) -> usize
+    requires { ⌜ Ready base (now b) at (length (now store)) ⌝ }
+    ensures { λ r. ⌜ (r ≡ nextAt (now (b .entry)) at) × (now (store .exit) ≡ putAs (kindOf (idAt (now (b .entry)) at)) base (valueAt (now (b .entry)) at) (now (store .entry))) ⌝ }
+{
+    let id = get16(b, at) as usize;
+    if within(0x1000, 0x1053, id as u64) {
+        copy(b, at + 4, store, base + (40 + 8 * (id - 0x1000)), 8);
+        return at + 12;
+    }
+    if within(0x3000, 0x303F, id as u64) {
+        copy(b, at + 4, store, base + (772 + 16 * (id - 0x3000)), 16);
+        return at + 20;
+    }
+    if within(0x2000, 0x200E, id as u64) {
+        copy(b, at + 4, store, base + (712 + 4 * (id - 0x2000)), 4);
+        return at + 8;
+    }
+    store_other(store, base, b, at)
 }
 
 // The elements of an accepted buffer, stored in order.
@@ -91,7 +113,7 @@ fn fill_as(kind: Kind, store: &[u8], base: usize, b: &mut [u8], at: usize, size:
 }
 
 // Fills in the element at `at`, and returns where the next starts.
-fn fill_element(store: &[u8], base: usize, b: &mut [u8], at: usize) -> usize
+fn fill_other(store: &[u8], base: usize, b: &mut [u8], at: usize) -> usize
     requires { ⌜ Ready base (now b) at (length (now store)) ⌝ }
     ensures { λ r. ⌜ (r ≡ nextAt (now (b .entry)) at) × (now (b .exit) ≡ fillAs (kindOf (idAt (now (b .entry)) at)) base (now (store .entry)) at (now (b .entry))) ⌝ }
 {
@@ -101,6 +123,26 @@ fn fill_element(store: &[u8], base: usize, b: &mut [u8], at: usize) -> usize
     let size = get16(b, at + 2) as usize;
     fill_as(kind_of(get16(b, at)), store, base, b, at, size);
     at + 4 + size
+}
+
+fn fill_element(store: &[u8], base: usize, b: &mut [u8], at: usize) -> usize
+    requires { ⌜ Ready base (now b) at (length (now store)) ⌝ }
+    ensures { λ r. ⌜ (r ≡ nextAt (now (b .entry)) at) × (now (b .exit) ≡ fillAs (kindOf (idAt (now (b .entry)) at)) base (now (store .entry)) at (now (b .entry))) ⌝ }
+{
+    let id = get16(b, at) as usize;
+    if within(0x1000, 0x1053, id as u64) {
+        copy(store, base + (40 + 8 * (id - 0x1000)), b, at + 4, 8);
+        return at + 12;
+    }
+    if within(0x3000, 0x303F, id as u64) {
+        copy(store, base + (772 + 16 * (id - 0x3000)), b, at + 4, 16);
+        return at + 20;
+    }
+    if within(0x2000, 0x200E, id as u64) {
+        copy(store, base + (712 + 4 * (id - 0x2000)), b, at + 4, 4);
+        return at + 8;
+    }
+    fill_other(store, base, b, at)
 }
 
 // The values that an accepted buffer asks for, filled in.

@@ -1,8 +1,8 @@
 -- What was read of the element is what the definition reads.
 use Rattle.transfer.proofs.Moving.{empty-next, empty-filled, ready-moves, ready-inside, filled-element}
 use borrow.Author.Needs.{needs}
-use Rattle.transfer.proofs.fill_element.Statement.{statement}
-use Rattle.transfer.proofs.fill_element.Tie as tie
+use Rattle.transfer.proofs.fill_other.Statement.{statement}
+use Rattle.transfer.proofs.fill_other.Tie as tie
 
 get32-requires : tie.Need-get32-requires
 get32-requires c κs = search needs
@@ -46,8 +46,8 @@ same-length-2 c = search needs
 returns-2 : tie.Need-returns-2
 returns-2 c = (search needs, search (needs, filled-element))
 
-pub fill-element-spec : {M : Type 1} → statement M
-fill-element-spec =
+pub fill-other-spec : {M : Type 1} → statement M
+fill-other-spec =
     tie.close
     (tie.spec
     get32-requires
