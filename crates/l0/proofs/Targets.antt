@@ -11,7 +11,7 @@ use Rattle.answer.specs.declared.Fault.{Fault}
 use Rattle.answer.specs.declared.Fault.the-variants.{Guest, Vcpu}
 use Rattle.answer.specs.Refusals.{firstOf}
 use Rattle.store.specs.declared.Layout.{Layout}
-use Rattle.store.specs.Layout.{Sound, guestBytes, slotBytes, guestAt, slotAt}
+use Rattle.store.specs.Layout.{Sound, small, guestBytes, slotBytes, guestAt, slotAt}
 use Rattle.store.specs.Header.{header, live, slotOf}
 use Rattle.l0.specs.declared.Admission.{Admission}
 use Rattle.l0.specs.declared.Admission.the-variants.{Admitted, Refused}
@@ -113,3 +113,12 @@ held-fits t l len base h e f = omega (arith, held-vcpu t l len base h e)
 
 pub held-inside : (t : Target) (l : Layout) (len base : ℕ) → Held t false l len → t ≡ At base → base + 8 + 8 ≤ len
 held-inside t l len base h e = omega (arith, held-vcpu t l len base h e)
+
+-- ---- two layouts that are the one
+module _ (l m : Layout) (p : l ≡ small) (q : m ≡ small) where
+  pub target-same : (s : List ℕ) (supported flags : ℕ) (wide : Bool) (guest vcpu : ℕ) (r : Target) → r ≡ targetOf m s supported flags wide guest vcpu
+      → r ≡ targetOf l s supported flags wide guest vcpu
+  target-same s supported flags wide guest vcpu r e = e ∙ ap (λ (x : Layout). targetOf x s supported flags wide guest vcpu) (q ∙ sym p)
+
+  pub held-same : (r : Target) (wide : Bool) (n : ℕ) → Held r wide m n → Held r wide l n
+  held-same r wide n h = subst (λ (x : Layout). Held r wide x n) (q ∙ sym p) h

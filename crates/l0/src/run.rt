@@ -2,7 +2,7 @@
 use super::Admission;
 use super::Spot;
 use super::Target;
-use super::state::target_of;
+use super::state::small_target;
 use answer::Answer;
 use answer::Fault;
 use answer::Place;
@@ -83,10 +83,10 @@ fn spot_of(
     input_len: usize,
     output_len: usize,
 ) -> Spot
-    requires { ⌜ Sound l ⌝ }
+    requires { ⌜ l ≡ small ⌝ }
     ensures { λ r. ⌜ r ≡ spotOf l (now (store .entry)) flags guest vcpu need «input_len» «output_len» ⌝ }
 {
-    let target = target_of(store, l, 0xE000_0000_0000_0000, flags, false, guest, vcpu);
+    let target = small_target(store, l, 0xE000_0000_0000_0000, flags, false, guest, vcpu);
     match target {
         Target::Turned(fault) => Spot::Off(fault),
         Target::At(base) => {
@@ -151,7 +151,7 @@ fn judge_run(
     effect: &[u8],
     exit: u64,
 ) -> Spot
-    requires { ⌜ Sound l ⌝ }
+    requires { ⌜ l ≡ small ⌝ }
     ensures { λ r. ⌜ r ≡ judgedRun l (now (store .entry)) flags guest vcpu (now (input .entry)) «output_len» (now (effect .entry)) exit ⌝ }
 {
     let spot = spot_of(store, l, flags, guest, vcpu, 0, input.len(), output_len);

@@ -71,6 +71,23 @@ pub fn target_of(
     Target::At(slot_at(l, slot))
 }
 
+// The same where the layout is the one that there is: a copy for all callers, in which its numbers are known.
+pub fn small_target(
+    store: &[u8],
+    l: Layout,
+    supported: u64,
+    flags: u64,
+    wide: bool,
+    guest: usize,
+    vcpu: usize,
+) -> Target
+    requires { ⌜ l ≡ small ⌝ }
+    ensures { λ r. ⌜ r ≡ targetOf l (now (store .entry)) supported flags wide guest vcpu ⌝ }
+    ensures { λ r. ⌜ Held r wide l (length (now (store .entry))) ⌝ }
+{
+    target_of(store, small_layout(), supported, flags, wide, guest, vcpu)
+}
+
 // 5, then the elements.
 fn judge_buffer(store: &[u8], l: Layout, usage: Usage, buffer: &[u8]) -> Admission
     requires { ⌜ Sound l × (length (now store) ≡ l .size) ⌝ }
@@ -123,7 +140,7 @@ pub fn set_state(store: &mut [u8], flags: u64, guest: u64, vcpu: u64, buffer: &[
 {
     let l = small_layout();
     let wide = is_wide(flags);
-    let target = target_of(store, l, BIT_0, flags, wide, guest as usize, vcpu as usize);
+    let target = small_target(store, l, BIT_0, flags, wide, guest as usize, vcpu as usize);
     match target {
         Target::Turned(fault) => refusal(fault),
         Target::At(base) => set_at(store, l, base, set_use(wide), buffer),
@@ -157,7 +174,7 @@ pub fn get_state(store: &[u8], flags: u64, guest: u64, vcpu: u64, buffer: &mut [
 {
     let l = small_layout();
     let wide = is_wide(flags);
-    let target = target_of(store, l, BIT_0, flags, wide, guest as usize, vcpu as usize);
+    let target = small_target(store, l, BIT_0, flags, wide, guest as usize, vcpu as usize);
     match target {
         Target::Turned(fault) => refusal(fault),
         Target::At(base) => get_at(store, l, base, get_use(wide), buffer),

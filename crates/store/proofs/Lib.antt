@@ -7,3 +7,4 @@ pub mod Fields
 pub mod Small
 pub mod Frame
 pub mod Kept
+pub mod Counted

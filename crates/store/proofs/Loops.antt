@@ -1,13 +1,16 @@
 -- The loops over slots and guests, in the form of their needs. Assumes nothing.
-use mathlib.Core.Path.{_≡_, refl, sym, ap, _∙_}
+use mathlib.Core.Path.{_≡_, refl, sym, ap, ap₂, _∙_}
 use mathlib.Core.Bool.{Bool, true, false, not, _&&_, cond}
 use mathlib.Core.List.{List}
 use Prim.Native.Nat.{ℕ, zero, suc, _+_, _-_, _≤_, _<_}
+use native.Mathlib.Numerals.{add-one}
 use native.Mathlib.Omega.{arith}
 use borrow.Author.Tests.{eq-eqb, ne-eqb, not-true, not-false}
 use Rattle.store.specs.declared.Layout.{Layout}
-use Rattle.store.specs.Search.{every, first}
-use Rattle.store.specs.Header.{word, live, holds, lacks, alone, slotGood, wordsGood, slotHolding, isDead, freeGuest}
+use Rattle.store.specs.Search.{every, first, tally}
+use Rattle.store.specs.Header.{word, live, holds, wordsGood, slotHolding, isDead, freeGuest}
+use Rattle.store.specs.Private.{timesOf, slotCounted}
+use Rattle.store.proofs.Counted.{words-counted}
 
 module _ (p : ℕ → Bool) (n i : ℕ) where
   pub every-end : n ≤ i → every p (n - i) i ≡ true
@@ -38,7 +41,7 @@ module _ (p : ℕ → Bool) (n i : ℕ) where
   first-here : i < n → p i ≡ true → first p (n - i) i ≡ i
   first-here h e = first-turn h ∙ ap (λ (b : Bool). cond b i (first p (n - (i + 1)) (i + 1))) e
 
--- ---- the slot that holds a word, and that no earlier one does
+-- ---- the slot that holds a word, and how many do
 module _ (l : Layout) (s : List ℕ) (w : ℕ) where
   pub find-start : slotHolding l s w ≡ first (holds l s w) (l .slots - 0) 0
   unfolding slotHolding
@@ -56,37 +59,40 @@ module _ (l : Layout) (s : List ℕ) (w : ℕ) where
     pub find-end : l .slots ≤ i → i ≡ f
     find-end k = sym (h ∙ first-end (holds l s w) (l .slots) i k)
 
-  module _ (a : ℕ) where
-    pub alone-start : alone l s w a ≡ every (lacks l s w) (a - 0) 0
-    unfolding alone
-    alone-start = let e : a ≡ a - 0 = omega arith in ap (λ (n : ℕ). every (lacks l s w) n 0) e
+  -- how many slots hold it, of those before b
+  pub times-start : 0 ≡ tally (holds l s w) 0
+  unfolding tally
+  times-start = refl
 
-    module _ (f : Bool) (b : ℕ) (h : f ≡ every (lacks l s w) (a - b) b) where
-      pub alone-hit : (x : ℕ) → b < a → x ≡ word l s b → x ≡ w → false ≡ f
-      unfolding lacks
-      alone-hit x k e q = sym (h ∙ every-out (lacks l s w) a b k (ap not (eq-eqb _ _ (sym e ∙ q))))
+  pub times-turn : (n b x : ℕ) → n ≡ tally (holds l s w) b → x ≡ cond (holds l s w b) 1 0 → n + x ≡ tally (holds l s w) (b + 1)
+  unfolding tally
+  times-turn n b x h e = ap₂ _+_ h e ∙ ap (tally (holds l s w)) (sym (add-one b))
 
-      pub alone-miss : (x : ℕ) → b < a → x ≡ word l s b → (x ≡ w → ⊥) → f ≡ every (lacks l s w) (a - (b + 1)) (b + 1)
-      unfolding lacks
-      alone-miss x k e q = h ∙ every-past (lacks l s w) a b k (ap not (ne-eqb _ _ (λ r. q (e ∙ r))))
+  module _ (b x : ℕ) (e : x ≡ word l s b) where
+    pub held-hit : x ≡ w → _≡_ {A = ℕ} 1 (cond (holds l s w b) 1 0)
+    unfolding holds
+    held-hit q = simp (eq-eqb _ _ (sym e ∙ q))
 
-      pub alone-end : a ≤ b → true ≡ f
-      alone-end k = sym (h ∙ every-end (lacks l s w) a b k)
+    pub held-miss : (x ≡ w → ⊥) → _≡_ {A = ℕ} 0 (cond (holds l s w b) 1 0)
+    unfolding holds
+    held-miss q = simp (ne-eqb _ _ (λ r. q (e ∙ r)))
+
+  pub times-end : (n b : ℕ) → n ≡ tally (holds l s w) b → b ≤ l .slots → l .slots ≤ b → n ≡ timesOf l s w
+  times-end n b h p q = let e : b ≡ l .slots = omega arith in h ∙ ap (tally (holds l s w)) e
 
 module _ (l : Layout) (s : List ℕ) where
-  pub words-start : wordsGood l s ≡ every (slotGood l s) (l .slots - 0) 0
-  unfolding wordsGood
-  words-start = let e : l .slots ≡ l .slots - 0 = omega arith in ap (λ (n : ℕ). every (slotGood l s) n 0) e
+  pub words-start : wordsGood l s ≡ every (slotCounted l s) (l .slots - 0) 0
+  words-start = let e : l .slots ≡ l .slots - 0 = omega arith in words-counted l s ∙ ap (λ (n : ℕ). every (slotCounted l s) n 0) e
 
-  module _ (f : Bool) (a : ℕ) (h : f ≡ every (slotGood l s) (l .slots - a) a) where
-    pub words-bad : (x : Bool) → a < l .slots → x ≡ slotGood l s a → not x ≡ true → false ≡ f
-    words-bad x k e q = sym (h ∙ every-out (slotGood l s) (l .slots) a k (sym e ∙ not-true x q))
+  module _ (f : Bool) (a : ℕ) (h : f ≡ every (slotCounted l s) (l .slots - a) a) where
+    pub words-bad : (x : Bool) → a < l .slots → x ≡ slotCounted l s a → not x ≡ true → false ≡ f
+    words-bad x k e q = sym (h ∙ every-out (slotCounted l s) (l .slots) a k (sym e ∙ not-true x q))
 
-    pub words-turn : (x : Bool) → a < l .slots → x ≡ slotGood l s a → not x ≡ false → f ≡ every (slotGood l s) (l .slots - (a + 1)) (a + 1)
-    words-turn x k e q = h ∙ every-past (slotGood l s) (l .slots) a k (sym e ∙ not-false x q)
+    pub words-turn : (x : Bool) → a < l .slots → x ≡ slotCounted l s a → not x ≡ false → f ≡ every (slotCounted l s) (l .slots - (a + 1)) (a + 1)
+    words-turn x k e q = h ∙ every-past (slotCounted l s) (l .slots) a k (sym e ∙ not-false x q)
 
     pub words-end : l .slots ≤ a → true ≡ f
-    words-end k = sym (h ∙ every-end (slotGood l s) (l .slots) a k)
+    words-end k = sym (h ∙ every-end (slotCounted l s) (l .slots) a k)
 
 -- ---- the lowest free guest
 module _ (l : Layout) (s : List ℕ) where

@@ -56,11 +56,17 @@ module _ (l : Layout) (h : Sound l) (s : List ℕ) where
     unfolding live
     live-over k m = simp (le-leb _ _ k, lt-leb _ _ m)
 
-    pub live-read : (x : ℕ) → 1 ≤ g → g ≤ l .guests → x ≡ getD s ((63 + g) / 8) 0 → eqb (x / 2 ^ (7 - (63 + g) % 8) % 2) 1 ≡ live l (header l s) g
+    live-bit : (x : ℕ) → 1 ≤ g → g ≤ l .guests → x ≡ getD s ((63 + g) / 8) 0 → eqb (x / 2 ^ (7 - (63 + g) % 8) % 2) 1 ≡ live l (header l s) g
     unfolding live header
-    live-read x k m e =
+    live-bit x k m e =
         let p : 63 + g < 8 * l .«guests_at» = omega (arith, h .head, h .words, h .some-zeros) in
         simp (le-leb _ _ k, le-leb _ _ m) (ap (λ (y : ℕ). eqb y 1) (bit-of s (63 + g) x e ∙ sym (bit-front s (l .«guests_at») (63 + g) p)))
+
+    pub live-read : (x : ℕ) → 1 ≤ g → g ≤ l .guests → x ≡ getD s (8 + (g - 1) / 8) 0 → eqb (x / 2 ^ (7 - (g - 1) % 8) % 2) 1 ≡ live l (header l s) g
+    live-read x k m e =
+        let p : 8 + (g - 1) / 8 ≡ (63 + g) / 8 = omega arith in
+        let q : (g - 1) % 8 ≡ (63 + g) % 8 = omega arith in
+        ap (λ (n : ℕ). eqb (x / 2 ^ (7 - n) % 2) 1) q ∙ live-bit x k m (e ∙ ap (λ (n : ℕ). getD s n 0) p)
 
     pub live-byte : g ≤ l .guests → (63 + g) / 8 < l .«guests_at»
     live-byte m = omega (arith, h .head, h .words, h .some-zeros)

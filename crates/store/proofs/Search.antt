@@ -114,6 +114,39 @@ tally-more p q (suc n) j l a b h = go (ℕ-discrete j n) (tally-more p q n j)
         let w : p n ≡ q n = h n (omega arith) (λ e. m (sym e)) in
         rw w (omega arith)
 
+pub tally-none : (n : ℕ) → tally (λ k. false) n ≡ 0
+unfolding tally
+tally-none zero = refl
+tally-none (suc n) = let x : tally (λ k. false) n ≡ 0 = tally-none n in omega arith
+
+-- one alone has p
+pub tally-one : (p : ℕ → Bool) (n j : ℕ) → j < n → p j ≡ true → ((k : ℕ) → k < n → k ≢ j → p k ≡ false) → tally p n ≡ 1
+tally-one p n j l e h =
+    let x : tally p n ≡ tally (λ k. false) n + 1 = tally-more (λ k. false) p n j l refl e (λ k a b. sym (h k a b)) in
+    omega (arith, tally-none n)
+
+tally-some : (p : ℕ → Bool) (n j : ℕ) → j < n → p j ≡ true → 1 ≤ tally p n
+unfolding tally
+tally-some p zero j l e = absurd (not-suc-le-zero l)
+tally-some p (suc n) j l e = go (ℕ-discrete j n) (tally-some p n j)
+  where
+    go : Dec (j ≡ n) → (j < n → p j ≡ true → 1 ≤ tally p n) → 1 ≤ tally p n + cond (p n) 1 0
+    go (yes q) ih = let x : p n ≡ true = ap p (sym q) ∙ e in rw x (omega arith)
+    go (no m) ih = let x : 1 ≤ tally p n = ih (omega arith) e in omega arith
+
+-- two have p
+pub tally-two : (p : ℕ → Bool) (n i j : ℕ) → i < j → j < n → p i ≡ true → p j ≡ true → 2 ≤ tally p n
+unfolding tally
+tally-two p zero i j h l a b = absurd (not-suc-le-zero l)
+tally-two p (suc n) i j h l a b = go (ℕ-discrete j n) (tally-two p n i j h)
+  where
+    go : Dec (j ≡ n) → (j < n → p i ≡ true → p j ≡ true → 2 ≤ tally p n) → 2 ≤ tally p n + cond (p n) 1 0
+    go (yes q) ih =
+        let x : p n ≡ true = ap p (sym q) ∙ b in
+        let y : 1 ≤ tally p n = tally-some p n i (omega arith) a in
+        rw x (omega arith)
+    go (no m) ih = let x : 2 ≤ tally p n = ih (omega arith) a b in omega arith
+
 -- where each number has r exactly if it has p or q, and none has both
 pub tally-sum : (p q r : ℕ → Bool) (n : ℕ) → ((k : ℕ) → k < n → cond (p k) 1 0 + cond (q k) 1 0 ≡ cond (r k) 1 0) → tally p n + tally q n ≡ tally r n
 unfolding tally

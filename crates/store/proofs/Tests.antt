@@ -9,34 +9,36 @@ use lib.ListN.{length}
 use borrow.Author.Tests.{eq-eqb, ne-eqb, le-leb, lt-leb, lt-ltb, le-ltb, leb-true, eqb-true, not-true, not-false}
 use Rattle.store.specs.declared.Layout.{Layout}
 use Rattle.store.specs.Layout.{Sound}
-use Rattle.store.specs.Header.{header, live, word, wordOf, isUsed, guestOf, alone, slotGood, headGood, wordsGood, slotHolding, slotOf, freeSlot}
+use Rattle.store.specs.Header.{header, live, word, wordOf, isUsed, guestOf, headGood, wordsGood, slotHolding, slotOf, freeSlot}
+use Rattle.store.specs.Private.{timesOf, slotCounted}
 use Rattle.store.specs.Store.{wellFormed}
 use Rattle.store.proofs.Search.{both}
 
 -- ---- a slot
 module _ (l : Layout) (s : List ℕ) (a w : ℕ) (e : w ≡ word l s a) where
   abbrev body : ℕ → Bool
-  body w = cond (eqb w 0) true (isUsed l w && (live l s (guestOf l w) && alone l s w a))
+  body w = cond (eqb w 0) true (isUsed l w && (live l s (guestOf l w) && eqb (timesOf l s w) 1))
 
-  slot-is : slotGood l s a ≡ body w
-  unfolding slotGood
+  slot-is : slotCounted l s a ≡ body w
+  unfolding slotCounted
   slot-is = ap body (sym e)
 
-  pub slot-zero : w ≡ 0 → true ≡ slotGood l s a
+  pub slot-zero : w ≡ 0 → true ≡ slotCounted l s a
   slot-zero z = sym (slot-is ∙ simp (eq-eqb _ _ z))
 
-  pub slot-unused : (w ≡ 0 → ⊥) → w < l .ids * 2048 → false ≡ slotGood l s a
+  pub slot-unused : (w ≡ 0 → ⊥) → w < l .ids * 2048 → false ≡ slotCounted l s a
   unfolding isUsed
   slot-unused n h = sym (slot-is ∙ simp (ne-eqb _ _ n, lt-leb _ _ h))
 
   module _ (n : w ≡ 0 → ⊥) (h : l .ids * 2048 ≤ w) (x : Bool) (f : x ≡ live l s (w / 2048 - l .ids)) where
-    pub slot-dead : not x ≡ true → false ≡ slotGood l s a
+    pub slot-dead : not x ≡ true → false ≡ slotCounted l s a
     unfolding isUsed guestOf
     slot-dead q = sym (slot-is ∙ simp (ne-eqb _ _ n, le-leb _ _ h, sym f ∙ not-true x q))
 
-    pub slot-alone : (y : Bool) → not x ≡ false → y ≡ alone l s w a → y ≡ slotGood l s a
+    pub slot-once : (y : ℕ) → not x ≡ false → y ≡ timesOf l s w → eqb y 1 ≡ slotCounted l s a
     unfolding isUsed guestOf
-    slot-alone y q r = r ∙ sym (slot-is ∙ simp (ne-eqb _ _ n, le-leb _ _ h, sym f ∙ not-false x q))
+    slot-once y q r =
+        ap (λ (m : ℕ). eqb m 1) r ∙ sym (slot-is ∙ simp (ne-eqb _ _ n, le-leb _ _ h, sym f ∙ not-false x q))
 
 -- ---- the slot of a vCPU
 module _ (l : Layout) (s : List ℕ) (g v : ℕ) (x : Bool) (e : x ≡ live l s g) where

@@ -4,10 +4,12 @@ use octets::get16;
 use octets::get64;
 use octets::wide;
 ghost use mathlib.Core.Path.{_≡_};
+ghost use mathlib.Core.Bool.{cond};
 ghost use Prim.Native.Nat.{_+_, _≤_, _<_, _*_};
 ghost use lib.ListN.{length};
 ghost use Rattle.store.specs.Layout.{Sound};
-ghost use Rattle.store.specs.Header.{header, capabilitiesOf, live, word, alone, slotGood, headGood, wordsGood, slotHolding, slotOf, freeSlot, freeGuest};
+ghost use Rattle.store.specs.Private.{timesOf, slotCounted};
+ghost use Rattle.store.specs.Header.{header, capabilitiesOf, live, word, holds, headGood, wordsGood, slotHolding, slotOf, freeSlot, freeGuest};
 ghost use Rattle.store.specs.Store.{wellFormed};
 
 pub fn capabilities_of(s: &[u8], l: Layout) -> u64
@@ -34,8 +36,8 @@ pub fn is_live(s: &[u8], l: Layout, g: usize) -> bool
     if l.guests < g {
         return false;
     }
-    let j = 63 + g;
-    (wide(s[j / 8]) >> (7 - j % 8)) % 2 == 1
+    let i = g - 1;
+    (wide(s[8 + i / 8]) >> (7 - i % 8)) % 2 == 1
 }
 
 fn slot_holding(s: &[u8], l: Layout, w: usize) -> usize
@@ -87,23 +89,34 @@ pub fn free_guest(s: &[u8], l: Layout) -> usize
     g
 }
 
-fn is_alone(s: &[u8], l: Layout, w: usize, a: usize) -> bool
-    requires { ⌜ Sound l × (length (now s) ≡ l .size) × (a ≤ l .slots) ⌝ }
-    ensures { λ r. ⌜ r ≡ alone l (header l (now (s .entry))) w a ⌝ }
+fn held(s: &[u8], l: Layout, b: usize, w: usize) -> u16
+    requires { ⌜ Sound l × (length (now s) ≡ l .size) × (b < l .slots) ⌝ }
+    ensures { λ r. ⌜ (r ≡ cond (holds l (header l (now (s .entry))) w b) 1 0) × (r ≤ 1) ⌝ }
 {
-    let mut b = 0;
-    while b < a {
-        if slot_word(s, l, b) == w {
-            return false;
-        }
-        b += 1;
+    if slot_word(s, l, b) == w {
+        return 1;
     }
-    true
+    0
 }
 
+// How many slots hold the word. It does not leave early: the compiler compares all words at once.
+fn times(s: &[u8], l: Layout, w: usize) -> u16
+    requires { ⌜ Sound l × (length (now s) ≡ l .size) ⌝ }
+    ensures { λ r. ⌜ r ≡ timesOf l (header l (now (s .entry))) w ⌝ }
+{
+    let mut n: u16 = 0;
+    let mut b = 0;
+    while b < l.slots {
+        n += held(s, l, b, w);
+        b += 1;
+    }
+    n
+}
+
+// A used word stands once, which is what no two alike comes to.
 fn slot_good(s: &[u8], l: Layout, a: usize) -> bool
     requires { ⌜ Sound l × (length (now s) ≡ l .size) × (a < l .slots) ⌝ }
-    ensures { λ r. ⌜ r ≡ slotGood l (header l (now (s .entry))) a ⌝ }
+    ensures { λ r. ⌜ r ≡ slotCounted l (header l (now (s .entry))) a ⌝ }
 {
     let w = slot_word(s, l, a);
     if w == 0 {
@@ -115,7 +128,7 @@ fn slot_good(s: &[u8], l: Layout, a: usize) -> bool
     if !is_live(s, l, w / 2048 - l.ids) {
         return false;
     }
-    is_alone(s, l, w, a)
+    times(s, l, w) == 1
 }
 
 fn words_good(s: &[u8], l: Layout) -> bool

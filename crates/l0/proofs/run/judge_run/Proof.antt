@@ -1,4 +1,5 @@
 -- By the spot, then by the contents (`run-..`).
+use Rattle.store.proofs.Small.{small-sound}
 use Rattle.l0.proofs.Runs.{spot-lends, spot-long, spot-part, run-off, run-content, run-slot}
 use borrow.Author.Needs.{needs}
 use Rattle.l0.proofs.run.judge_run.Statement.{statement}
@@ -14,10 +15,10 @@ enum-known-spot-2 : tie.Need-enum-known-spot-2
 enum-known-spot-2 c = search needs
 
 first-bytes-requires : tie.Need-first-bytes-requires
-first-bytes-requires c κs = search (needs, spot-lends)
+first-bytes-requires c κs = search (needs, spot-lends, small-sound)
 
 judge-content-requires : tie.Need-judge-content-requires
-judge-content-requires c κs = (search needs, search (needs, spot-long), search (needs, spot-part))
+judge-content-requires c κs = (search (needs, small-sound), search (needs, spot-long, small-sound), search (needs, spot-part, small-sound))
 
 enum-known-content : tie.Need-enum-known-content
 enum-known-content c = search needs

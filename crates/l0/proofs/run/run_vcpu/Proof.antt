@@ -9,7 +9,7 @@ small-layout-requires : tie.Need-small-layout-requires
 small-layout-requires c κs = search needs
 
 judge-run-requires : tie.Need-judge-run-requires
-judge-run-requires c κs = search (needs, small-sound)
+judge-run-requires c κs = search needs
 
 enum-known-spot : tie.Need-enum-known-spot
 enum-known-spot c = search needs

@@ -5,8 +5,8 @@ use borrow.Author.Needs.{needs}
 use Rattle.l0.proofs.run.spot_of.Statement.{statement}
 use Rattle.l0.proofs.run.spot_of.Tie as tie
 
-target-of-requires : tie.Need-target-of-requires
-target-of-requires c κs = search needs
+small-target-requires : tie.Need-small-target-requires
+small-target-requires c κs = search needs
 
 enum-known-target : tie.Need-enum-known-target
 enum-known-target c = search needs
@@ -42,7 +42,7 @@ pub spot-of-spec : {M : Type 1} → statement M
 spot-of-spec =
     tie.close
     (tie.spec
-    target-of-requires
+    small-target-requires
     enum-known-target
     enum-known-target-2
     judge-lent-requires

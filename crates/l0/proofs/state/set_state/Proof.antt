@@ -12,8 +12,8 @@ small-layout-requires c κs = search needs
 is-wide-requires : tie.Need-is-wide-requires
 is-wide-requires c κs = search needs
 
-target-of-requires : tie.Need-target-of-requires
-target-of-requires c κs = search (needs, small-sound)
+small-target-requires : tie.Need-small-target-requires
+small-target-requires c κs = search needs
 
 enum-known-target : tie.Need-enum-known-target
 enum-known-target c = search needs
@@ -48,7 +48,7 @@ set-state-spec =
     (tie.spec
     small-layout-requires
     is-wide-requires
-    target-of-requires
+    small-target-requires
     enum-known-target
     refusal-requires
     enum-known-target-2

@@ -1,6 +1,6 @@
 -- Each return is a law of `live`.
-use Rattle.store.proofs.Readings.{live-none, live-over, live-read}
 use borrow.Author.Needs.{needs}
+use Rattle.store.proofs.Readings.{live-none, live-over, live-read}
 use Rattle.store.proofs.header.is_live.Statement.{statement}
 use Rattle.store.proofs.header.is_live.Tie as tie
 
@@ -10,8 +10,8 @@ returns c = search (needs, live-none)
 returns-2 : tie.Need-returns-2
 returns-2 c = search (needs, live-over)
 
-add-j : tie.Need-add-j
-add-j c = search needs
+add-wide : tie.Need-add-wide
+add-wide c = search needs
 
 shared-slice-read-wide : tie.Need-shared-slice-read-wide
 shared-slice-read-wide c = search needs
@@ -34,7 +34,7 @@ is-live-spec =
     (tie.spec
     returns
     returns-2
-    add-j
+    add-wide
     shared-slice-read-wide
     wide-requires
     sub-result

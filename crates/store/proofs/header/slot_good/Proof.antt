@@ -1,6 +1,6 @@
--- Each return is a law of `slotGood`.
-use Rattle.store.proofs.Tests.{slot-zero, slot-unused, slot-dead, slot-alone}
+-- Each return is a law of `slotCounted`.
 use borrow.Author.Needs.{needs}
+use Rattle.store.proofs.Tests.{slot-zero, slot-unused, slot-dead, slot-once}
 use Rattle.store.proofs.header.slot_good.Statement.{statement}
 use Rattle.store.proofs.header.slot_good.Tie as tie
 
@@ -25,11 +25,11 @@ is-live-requires c κs = search needs
 returns-3 : tie.Need-returns-3
 returns-3 c = search (needs, slot-dead)
 
-is-alone-requires : tie.Need-is-alone-requires
-is-alone-requires c κs = search needs
+times-requires : tie.Need-times-requires
+times-requires c κs = search needs
 
 returns-4 : tie.Need-returns-4
-returns-4 c = search (needs, slot-alone)
+returns-4 c = search (needs, slot-once)
 
 pub slot-good-spec : {M : Type 1} → statement M
 slot-good-spec =
@@ -42,5 +42,5 @@ slot-good-spec =
     sub-is-live
     is-live-requires
     returns-3
-    is-alone-requires
+    times-requires
     returns-4)

@@ -1,6 +1,7 @@
--- The invariant is the test that is left: the laws `words-..` of Loops.
+-- The invariant is the test that is left: the laws `words-..` of Loops, which rest on `words-counted`.
 use Rattle.store.specs.Search.{every}
-use Rattle.store.specs.Header.{header, slotGood, wordsGood}
+use Rattle.store.specs.Header.{header, wordsGood}
+use Rattle.store.specs.Private.{slotCounted}
 use Rattle.store.proofs.Loops.{words-start, words-bad, words-turn, words-end}
 use Prim.Native.Nat.{ℕ, _+_, _-_, _*_, _≤_, _<_, _^_, _/_, _%_}
 use lib.ListN.{length}
@@ -11,7 +12,7 @@ use Rattle.store.proofs.header.words_good.Statement.{statement}
 use Rattle.store.proofs.header.words_good.Tie as tie
 
 abbrev Inv-loop : tie.InvT-loop
-Inv-loop s l a₀ a = (a ≤ l .slots) × (wordsGood l (header l s) ≡ every (slotGood l (header l s)) (l .slots - a) a)
+Inv-loop s l a₀ a = (a ≤ l .slots) × (wordsGood l (header l s) ≡ every (slotCounted l (header l s)) (l .slots - a) a)
 
 abbrev μ-loop : tie.MeasureT-loop
 μ-loop s l a₀ a = l .slots - a
