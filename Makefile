@@ -13,9 +13,11 @@ tools:
 	@command -v $(CC) >/dev/null && command -v objdump >/dev/null || \
 	    (apt-get update -qq && apt-get install -y -qq gcc libc6-dev binutils)
 
-target/bench/compare: all bench/compare.c bench/model.c bench/model.h include/adderknot.h
+night = bench/night.c bench/gsb.c bench/lent.c bench/chance.c bench/tell.c
+
+target/bench/compare: all bench/compare.c $(night) bench/model.c $(wildcard bench/*.h) include/adderknot.h
 	mkdir -p target/bench
-	$(CC) $(CFLAGS) -Iinclude bench/compare.c bench/model.c $(archive) -o $@
+	$(CC) $(CFLAGS) -Iinclude bench/compare.c $(night) bench/model.c $(archive) -o $@
 
 target/bench/calls: all bench/calls.c bench/model.c bench/model.h include/adderknot.h
 	mkdir -p target/bench

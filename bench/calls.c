@@ -1,7 +1,7 @@
 /*
  * calls.c: makes the calls that a text file lists, on the library and on the model, and holds both to what it expects.
  *
- *     cc -std=c11 -O2 -I include bench/calls.c bench/model.c libadderknot.a -o calls
+ *     make target/bench/calls
  *     calls FILE...
  *
  * A line is a statement; one that begins with a space goes on with the line before, and # begins a comment.
@@ -18,6 +18,7 @@
  * the text says otherwise a call must leave every buffer as it was, and a refused one the store too. A line 'passed
  * calls TEXT' or 'failed calls TEXT' is printed for each case.
  */
+#include "l0.h"
 #include "model.h"
 
 #include <ctype.h>
@@ -50,25 +51,21 @@ struct statement {
 
 struct side {
     const char *name;
+    struct l0 on;
     uint8_t store[ADK_STORE_SIZE];
     struct bytes piece[PIECES];
 };
 
-static struct side sides[] = { { .name = "library" }, { .name = "model" } };
+static struct side sides[] = { { .name = "library", .on = L0_LIBRARY }, { .name = "model", .on = L0_MODEL } };
 
 typedef adk_answer make_call(struct side *s, const uint64_t *n);
 
-/* One call on either side, from the same arguments. */
-#define MAKE(name, ...)                                                    \
-    static adk_answer library_##name(struct side *s, const uint64_t *n)    \
-    {                                                                      \
-        (void)n;                                                           \
-        return adk_##name(__VA_ARGS__);                                    \
-    }                                                                      \
-    static adk_answer model_##name(struct side *s, const uint64_t *n)      \
-    {                                                                      \
-        (void)n;                                                           \
-        return mdl_##name(__VA_ARGS__);                                    \
+/* One call on a side. */
+#define MAKE(name, ...)                                              \
+    static adk_answer make_##name(struct side *s, const uint64_t *n) \
+    {                                                                \
+        (void)n;                                                     \
+        return s->on.name(__VA_ARGS__);                              \
     }
 
 #define STORE s->store, sizeof s->store
@@ -87,11 +84,11 @@ MAKE(guest_clock, STORE, n[0], n[1])
 
 enum { NONE = PIECES };
 
-#define ON(name) #name, { library_##name, model_##name }
+#define ON(name) #name, make_##name
 
 static const struct kind {
     const char *name;
-    make_call *make[COUNT(sides)];
+    make_call *make;
     unsigned numbers, pieces, written; /* written: the piece that the call may write, or NONE */
 } KINDS[] = {
     { ON(fresh_store), 0, 0, NONE },
@@ -113,12 +110,12 @@ static bool same_bytes(const struct bytes *a, const struct bytes *b)
     return a->n == b->n && memcmp(a->b, b->b, a->n) == 0;
 }
 
-static bool call_on(struct side *s, make_call *make, const struct kind *k, const struct statement *t)
+static bool call_on(struct side *s, const struct kind *k, const struct statement *t)
 {
     static uint8_t before[ADK_STORE_SIZE];
     memcpy(before, s->store, sizeof before);
     memcpy(s->piece, t->piece, sizeof s->piece);
-    adk_answer a = make(s, t->number);
+    adk_answer a = k->make(s, t->number);
     bool holds = a.r3 == t->answer[0] && a.r4 == t->answer[1] && a.r5 == t->answer[2];
     if (!holds)
         printf("  %s answers %llu %llu %llu\n", s->name, (unsigned long long)a.r3, (unsigned long long)a.r4,
@@ -141,7 +138,7 @@ static bool call(const struct kind *k, const struct statement *t)
     if (t->numbers != k->numbers || t->pieces != k->pieces || t->answers == 0 || (t->afters != 0 && k->written == NONE))
         return false;
     for (size_t i = 0; i < COUNT(sides); i++)
-        holds = call_on(&sides[i], k->make[i], k, t) && holds;
+        holds = call_on(&sides[i], k, t) && holds;
     bool same = memcmp(sides[0].store, sides[1].store, ADK_STORE_SIZE) == 0;
     if (!same)
         printf("  library and model leave different stores\n");

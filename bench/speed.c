@@ -2,7 +2,7 @@
  * speed.c: times the library against the model on the calls that walk a guest state buffer, and on those that create
  * and delete.
  *
- *     cc -std=c11 -O2 -I include bench/speed.c bench/model.c libadderknot.a -o speed
+ *     make target/bench/speed
  *     speed [--rounds N]
  *
  * It prints a line for each case: 'ratio  library ns  model ns  case'. Each round times both sides on the same work,
@@ -14,6 +14,7 @@
  */
 #define _POSIX_C_SOURCE 199309L
 
+#include "l0.h"
 #include "model.h"
 
 #include <stdbool.h>
@@ -42,60 +43,43 @@ struct buffer {
 };
 
 struct side {
-    adk_answer (*get_state)(const uint8_t *, size_t, uint64_t, uint64_t, uint64_t, uint8_t *, size_t);
-    adk_answer (*set_state)(uint8_t *, size_t, uint64_t, uint64_t, uint64_t, const uint8_t *, size_t);
-    adk_answer (*run_vcpu)(uint8_t *, size_t, uint64_t, uint64_t, uint64_t, const uint8_t *, size_t, uint8_t *, size_t,
-                           const uint8_t *, size_t, uint64_t);
-    adk_answer (*create_guest)(uint8_t *, size_t, uint64_t, uint64_t);
-    adk_answer (*create_vcpu)(uint8_t *, size_t, uint64_t, uint64_t, uint64_t);
-    adk_answer (*delete_guest)(uint8_t *, size_t, uint64_t, uint64_t);
-    adk_found (*lookup)(const uint8_t *, size_t, uint16_t);
+    struct l0 on;
     uint8_t store[ADK_STORE_SIZE];
     struct buffer buffer, effect; /* buffer is a run's input */
     uint8_t output[ADK_BUFFER_MAX];
 };
 
-#define SIDE(prefix)                                                                                      \
-    { .get_state = prefix##_get_state, .set_state = prefix##_set_state, .run_vcpu = prefix##_run_vcpu,    \
-      .create_guest = prefix##_create_guest, .create_vcpu = prefix##_create_vcpu,                         \
-      .delete_guest = prefix##_delete_guest, .lookup = prefix##_lookup }
-
-static struct side library = SIDE(adk), model = SIDE(mdl);
-
-static adk_found plain(adk_answer a)
-{
-    return (adk_found){ a.r3, a.r4, a.r5, 0, 0 };
-}
+static struct side library = { .on = L0_LIBRARY }, model = { .on = L0_MODEL };
 
 static adk_found call_get(struct side *s)
 {
-    return plain(s->get_state(s->store, sizeof s->store, 0, GUEST, VCPU, s->buffer.bytes, s->buffer.len));
+    return plain(s->on.get_state(s->store, sizeof s->store, 0, GUEST, VCPU, s->buffer.bytes, s->buffer.len));
 }
 
 static adk_found call_set(struct side *s)
 {
-    return plain(s->set_state(s->store, sizeof s->store, 0, GUEST, VCPU, s->buffer.bytes, s->buffer.len));
+    return plain(s->on.set_state(s->store, sizeof s->store, 0, GUEST, VCPU, s->buffer.bytes, s->buffer.len));
 }
 
 /* Both run buffers are registered and lent with the greatest size; the input's count says where it ends. */
 static adk_found call_run(struct side *s)
 {
-    return plain(s->run_vcpu(s->store, sizeof s->store, 0, GUEST, VCPU, s->buffer.bytes, sizeof s->buffer.bytes,
+    return plain(s->on.run_vcpu(s->store, sizeof s->store, 0, GUEST, VCPU, s->buffer.bytes, sizeof s->buffer.bytes,
                              s->output, sizeof s->output, s->effect.bytes, s->effect.len, ADK_EXIT_HCALL));
 }
 
 /* Three calls. The guest comes back under its number, and its vCPU in the slot that was freed. */
 static adk_found call_anew(struct side *s)
 {
-    adk_answer gone = s->delete_guest(s->store, sizeof s->store, 0, GUEST);
-    adk_answer guest = s->create_guest(s->store, sizeof s->store, 0, ADK_TOKEN);
-    adk_answer vcpu = s->create_vcpu(s->store, sizeof s->store, 0, guest.r4, VCPU);
+    adk_answer gone = s->on.delete_guest(s->store, sizeof s->store, 0, GUEST);
+    adk_answer guest = s->on.create_guest(s->store, sizeof s->store, 0, ADK_TOKEN);
+    adk_answer vcpu = s->on.create_vcpu(s->store, sizeof s->store, 0, guest.r4, VCPU);
     return (adk_found){ gone.r3 | guest.r3 | vcpu.r3, guest.r4, 0, 0, 0 };
 }
 
 static adk_found call_lookup(struct side *s)
 {
-    return s->lookup(s->buffer.bytes, s->buffer.len, ADK_GSID_VSR(63));
+    return s->on.lookup(s->buffer.bytes, s->buffer.len, ADK_GSID_VSR(63));
 }
 
 /* ---- Buffers ---- */

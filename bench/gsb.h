@@ -1,0 +1,87 @@
+/*
+ * gsb.h: guest state buffers, good and bad, built by chance; the elements that they hold, and the values around each
+ * rule.
+ */
+#ifndef GSB_H
+#define GSB_H
+
+#include "lent.h"
+
+/* ---- Elements ---- */
+
+/* Read with get state, written with set state, taken in the input of a run, taken in its effect. */
+enum { R = 1, W = 2, RUN_IN = 4, RUN_EFFECT = 8, RW = R | W, ALL = RW | RUN_IN | RUN_EFFECT };
+
+/* The list of adderknot.h apart from the NOP, in runs of equal elements. */
+enum { ROW_COUNT = 15 };
+
+extern const struct row {
+    unsigned first, last, size, access;
+    bool wide;
+} ROWS[ROW_COUNT];
+
+/* The row of an ID, or NULL. */
+const struct row *row_of(unsigned id);
+
+/* Whether a call with this access and scope takes the elements of the row. */
+bool takes(unsigned access, bool wide, const struct row *row);
+
+/* An ID of the list, the NOP, one beside a run of the list, or any. */
+unsigned any_id(void);
+
+/* The element behind this one, which must lie within its buffer. */
+const uint8_t *next_element(const uint8_t *element);
+
+/* ---- Values around each value rule: a logical PVR, or the size of a run buffer ---- */
+
+#define ANY UINT64_MAX
+
+enum { EDGE_COUNT = 31 };
+
+extern const struct edge {
+    unsigned id;
+    uint64_t agreed; /* with these capabilities agreed, or ANY */
+    uint64_t value;
+    bool good;
+} VALUE_EDGES[EDGE_COUNT];
+
+/* The number in a value that a rule judges. */
+uint64_t ruled_number(const uint8_t *value, unsigned id);
+
+/* Whether the edge is one of this ID, with the capabilities that are agreed in the store. */
+bool at_edge(const struct edge *e, unsigned id);
+
+/* Puts an edge into a value that a rule judges, a good one if it is to be good. Each has the same chance. */
+void put_edge(uint8_t *value, unsigned id, bool good);
+
+/* ---- Buffers ---- */
+
+/* A buffer under construction in BEFORE; high is the end of what was written. Elements take their IDs from a few, so
+   that IDs repeat. */
+struct build {
+    enum piece piece;
+    unsigned access; /* what the call asks of an element, and its scope */
+    bool wide;
+    uint8_t *b;
+    size_t len, high;
+    uint32_t count;
+    unsigned id[3];
+};
+
+struct build begin_build(enum piece piece, unsigned access, bool wide);
+
+/* Adds an element if it fits; the value keeps old bytes past the first 32. */
+void add_element(struct build *g, unsigned id, unsigned size);
+void put_count(struct build *g);
+
+/* An ID that the call can take now. */
+unsigned taken_id(const struct build *g);
+
+/* A buffer of the IDs in g, for a lookup; one for get or set state; mostly good elements, for a run, so that often
+   enough its input and its effect are; NOPs and nothing else. */
+void build_buffer(struct build *g);
+void build_state(struct build *g);
+void build_run(struct build *g);
+void build_nops(struct build *g);
+
+#endif

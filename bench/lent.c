@@ -1,0 +1,81 @@
+/* lent.c: see lent.h. */
+#include "lent.h"
+
+#include "chance.h"
+
+#include <stdlib.h>
+#include <string.h>
+
+const char *const PIECE_NAME[PIECES] = { "store", "buffer", "input", "output", "effect" };
+
+static const size_t CAPACITY[PIECES] = {
+    STORE_CAPACITY, BUFFER_CAPACITY, BUFFER_CAPACITY, BUFFER_CAPACITY, BUFFER_CAPACITY
+};
+
+uint8_t *memory[SIDES][PIECES];
+
+static size_t size_with_guards(int p)
+{
+    return GUARD + CAPACITY[p] + GUARD;
+}
+
+void make_memory(void)
+{
+    for (int p = 0; p < PIECES; p++) {
+        for (int s = 0; s < SIDES; s++) {
+            uint8_t *m = malloc(size_with_guards(p));
+            if (m == NULL)
+                exit(2);
+            memory[s][p] = m + GUARD;
+        }
+        any_bytes(memory[BEFORE][p] - GUARD, size_with_guards(p));
+    }
+    share_all();
+}
+
+void free_memory(void)
+{
+    for (int p = 0; p < PIECES; p++)
+        for (int s = 0; s < SIDES; s++)
+            free(memory[s][p] - GUARD);
+}
+
+void share(enum piece p, size_t at, size_t n)
+{
+    for (int s = 0; s < BEFORE; s++)
+        memcpy(memory[s][p] + at, memory[BEFORE][p] + at, n);
+}
+
+void share_all(void)
+{
+    for (int p = 0; p < PIECES; p++)
+        for (int s = 0; s < BEFORE; s++)
+            memcpy(memory[s][p] - GUARD, memory[BEFORE][p] - GUARD, size_with_guards(p));
+}
+
+bool same_bytes(enum piece p, enum side a, enum side b, size_t n)
+{
+    return memcmp(memory[a][p], memory[b][p], n) == 0;
+}
+
+bool guards_intact(enum piece p, enum side s, size_t n)
+{
+    return memcmp(memory[s][p] - GUARD, memory[BEFORE][p] - GUARD, GUARD) == 0 &&
+           memcmp(memory[s][p] + n, memory[BEFORE][p] + n, GUARD) == 0;
+}
+
+uint64_t load(const uint8_t *p, int n)
+{
+    uint64_t v = 0;
+    for (int i = 0; i < n; i++)
+        v = v << 8 | p[i];
+    return v;
+}
+
+void store_number(uint8_t *p, int n, uint64_t v)
+{
+    while (n-- > 0) {
+        p[n] = (uint8_t)v;
+        v >>= 8;
+    }
+}

@@ -1,0 +1,55 @@
+/*
+ * lent.h: the memory that is lent to both sides of a comparison.
+ *
+ * Each piece is there three times: lent to the library, lent to the other side (the model, or a vendor's library), and
+ * as it was before the call. Between two calls the three are equal, with what lies beside them, so that BEFORE also
+ * tells the guard bytes.
+ */
+#ifndef LENT_H
+#define LENT_H
+
+#include "adderknot.h"
+
+#include <stdbool.h>
+
+#define COUNT(a) (sizeof(a) / sizeof((a)[0]))
+
+enum side { LIBRARY, OTHER, BEFORE, SIDES };
+enum piece { STORE, BUFFER, INPUT, OUTPUT, EFFECT, PIECES };
+
+/* The store is also lent 65,536 bytes too long, which a length kept in 16 bits would not see. */
+enum { GUARD = 61, STORE_CAPACITY = ADK_STORE_SIZE + 65536, BUFFER_CAPACITY = ADK_BUFFER_MAX + 4096 };
+
+/* Positions in the store, for choosing numbers and doing damage. */
+enum {
+    LIVE = 8,
+    ZERO = 9,
+    WORDS = 10,
+    HEADER = 42,
+    GUEST_SIZE = 52,
+    TB_OFFSET = 4,
+    SLOT_VALUES = 458,
+    SLOT_SIZE = 1820
+};
+
+extern const char *const PIECE_NAME[PIECES];
+extern uint8_t *memory[SIDES][PIECES];
+
+/* All pieces are made, filled by chance, and given back. */
+void make_memory(void);
+void free_memory(void);
+
+/* Gives both sides the bytes that were written to BEFORE; or all that there is. */
+void share(enum piece p, size_t at, size_t n);
+void share_all(void);
+
+bool same_bytes(enum piece p, enum side a, enum side b, size_t n);
+
+/* Whether what lies beside the first n bytes is as it was. */
+bool guards_intact(enum piece p, enum side s, size_t n);
+
+/* Numbers of n bytes, most significant first. */
+uint64_t load(const uint8_t *p, int n);
+void store_number(uint8_t *p, int n, uint64_t v);
+
+#endif

@@ -1,0 +1,617 @@
+/* night.c: see night.h. */
+#include "night.h"
+
+#include "chance.h"
+
+#include <string.h>
+
+/* ---- A call made, on any L0 ---- */
+
+#define MAKE(form, name, ...)                                                                         \
+    static adk_found make_##name(const struct l0 *on, const struct call *c, uint8_t *const *m)        \
+    {                                                                                                 \
+        return form(on->name(__VA_ARGS__));                                                           \
+    }
+
+static adk_found as_is(adk_found f)
+{
+    return f;
+}
+
+MAKE(plain, fresh_store, m[STORE], c->len[STORE])
+MAKE(plain, get_capabilities, m[STORE], c->len[STORE], c->n[0])
+MAKE(plain, set_capabilities, m[STORE], c->len[STORE], c->n[0], c->n[1])
+MAKE(plain, create_guest, m[STORE], c->len[STORE], c->n[0], c->n[1])
+MAKE(plain, create_vcpu, m[STORE], c->len[STORE], c->n[0], c->n[1], c->n[2])
+MAKE(plain, get_state, m[STORE], c->len[STORE], c->n[0], c->n[1], c->n[2], m[BUFFER], c->len[BUFFER])
+MAKE(plain, set_state, m[STORE], c->len[STORE], c->n[0], c->n[1], c->n[2], m[BUFFER], c->len[BUFFER])
+MAKE(plain, run_vcpu, m[STORE], c->len[STORE], c->n[0], c->n[1], c->n[2], m[INPUT], c->len[INPUT], m[OUTPUT],
+     c->len[OUTPUT], m[EFFECT], c->len[EFFECT], c->n[3])
+MAKE(plain, delete_guest, m[STORE], c->len[STORE], c->n[0], c->n[1])
+MAKE(plain, guest_clock, m[STORE], c->len[STORE], c->n[0], c->n[1])
+MAKE(as_is, lookup, m[BUFFER], c->len[BUFFER], (uint16_t)c->n[0])
+
+size_t extent(const struct call *c, enum piece p)
+{
+    return p == STORE && c->len[p] < ADK_STORE_SIZE ? ADK_STORE_SIZE : c->len[p];
+}
+
+bool same_answer(const adk_found *a, const adk_found *b)
+{
+    return a->r3 == b->r3 && a->r4 == b->r4 && a->r5 == b->r5 && a->at == b->at && a->len == b->len;
+}
+
+/* ---- Numbers: mostly good ones, so that stores fill, and each edge ---- */
+
+unsigned word_of(uint64_t guest, unsigned vcpu)
+{
+    return 0x8000 | (unsigned)guest << 11 | vcpu;
+}
+
+static unsigned slot_word(unsigned slot)
+{
+    return (unsigned)load(memory[BEFORE][STORE] + WORDS + 2 * slot, 2);
+}
+
+/* A used slot word, or 0 where chance finds none. */
+static unsigned used_word(void)
+{
+    unsigned first = below(ADK_SLOTS);
+    for (unsigned i = 0; i < ADK_SLOTS; i++) {
+        unsigned w = slot_word((first + i) % ADK_SLOTS);
+        if (w & 0x8000)
+            return w;
+    }
+    return 0;
+}
+
+static uint64_t live_guest(void)
+{
+    unsigned first = below(ADK_GUESTS);
+    for (unsigned i = 0; i < ADK_GUESTS; i++) {
+        unsigned g = (first + i) % ADK_GUESTS;
+        if (memory[BEFORE][STORE][LIVE] & 0x80 >> g)
+            return g + 1;
+    }
+    return 1 + first;
+}
+
+static uint64_t any_guest(void)
+{
+    switch (below(16)) {
+    case 0: return below(16);
+    case 1: return 1 + below(ADK_GUESTS);
+    case 2: return any_number();
+    case 3: return alias(live_guest(), 3);
+    default: return live_guest();
+    }
+}
+
+static uint64_t any_vcpu(void)
+{
+    switch (below(12)) {
+    case 0: return any_number();
+    case 1: return alias(below(2048), 11);
+    case 2: return ADK_VCPU_MAX + below(3) - 1;
+    case 3: return alias(used_word() & 2047, 11);
+    case 4:
+    case 5: return below(3);
+    default: return below(2048);
+    }
+}
+
+static uint64_t bad_flags(void)
+{
+    switch (below(5)) {
+    case 0: return any_bit() | any_bit();
+    case 1: return any64() & any64() & any64();
+    case 2: return any_width();
+    case 3: return percent(10) ? UINT64_MAX : any_bit();
+    default: return any_bit();
+    }
+}
+
+static uint64_t any_flags(uint64_t good)
+{
+    return percent(85) ? good : good | bad_flags();
+}
+
+static uint64_t any_bitmap(void)
+{
+    uint64_t offered = ADK_CAP_POWER9 | ADK_CAP_POWER10;
+    uint64_t good = any64() & offered;
+    switch (below(8)) {
+    case 0: return any_bit();
+    case 1: return good | any_bit();
+    case 2: return any_number();
+    case 3: return percent(50) ? ~offered : any64();
+    default: return good;
+    }
+}
+
+static uint64_t any_token(void)
+{
+    switch (below(12)) {
+    case 0: return ADK_TOKEN - 1;
+    case 1: return ADK_TOKEN ^ any_bit();
+    case 2: return any_number();
+    default: return ADK_TOKEN;
+    }
+}
+
+static const size_t WRONG_LENGTHS[] = {
+    0, 1, 2, 7, 8, 9, 10, 41, 42, 43, 457, 458, 459, ADK_STORE_SIZE / 2, ADK_STORE_SIZE - 1820, ADK_STORE_SIZE - 52,
+    ADK_STORE_SIZE - 2, ADK_STORE_SIZE - 1, ADK_STORE_SIZE + 1, ADK_STORE_SIZE + 2, ADK_STORE_SIZE + 1820, 32768, 65535,
+    65536, STORE_CAPACITY
+};
+
+static size_t wrong_length(void)
+{
+    return percent(80) ? WRONG_LENGTHS[below(COUNT(WRONG_LENGTHS))] : below(STORE_CAPACITY + 1);
+}
+
+static void lend_store(struct call *c)
+{
+    c->len[STORE] = percent(95) ? ADK_STORE_SIZE : wrong_length();
+}
+
+/* ---- What each call is given ---- */
+
+/* A fresh store ends a history, so it is mostly refused. */
+static void choose_fresh_store(struct call *c)
+{
+    c->len[STORE] = percent(10) ? ADK_STORE_SIZE : wrong_length();
+}
+
+static void choose_get_capabilities(struct call *c)
+{
+    lend_store(c);
+    c->n[0] = any_flags(0);
+}
+
+static void choose_set_capabilities(struct call *c)
+{
+    lend_store(c);
+    c->n[0] = any_flags(0);
+    c->n[1] = any_bitmap();
+}
+
+static void choose_create_guest(struct call *c)
+{
+    lend_store(c);
+    c->n[0] = any_flags(0);
+    c->n[1] = any_token();
+}
+
+static void choose_create_vcpu(struct call *c)
+{
+    unsigned w = percent(15) ? used_word() : 0;
+    lend_store(c);
+    c->n[0] = any_flags(0);
+    c->n[1] = w != 0 ? w >> 11 & 15 : any_guest();
+    c->n[2] = w != 0 ? w & 2047 : any_vcpu();
+}
+
+static void choose_delete_guest(struct call *c)
+{
+    lend_store(c);
+    c->n[0] = any_flags(percent(4) ? ADK_DELETE_ALL : 0);
+    c->n[1] = any_guest();
+}
+
+/* Where guest is a number of a guest, its clock is brought close to the wrap at 2^64. */
+static uint64_t any_timebase(uint64_t guest)
+{
+    if (guest < 1 || guest > ADK_GUESTS || percent(40))
+        return any_number();
+    uint64_t offset = load(memory[BEFORE][STORE] + HEADER + GUEST_SIZE * (guest - 1) + TB_OFFSET, 8);
+    return percent(50) ? 1 - offset - below(3) : offset;
+}
+
+static void choose_guest_clock(struct call *c)
+{
+    lend_store(c);
+    c->n[0] = any_guest();
+    c->n[1] = any_timebase(c->n[0]);
+}
+
+/* ---- Guest state buffers that are lent ---- */
+
+static bool nops_alone;
+
+/* In a night of NOPs every buffer holds nothing else. */
+static void build(struct build *g, void (*usual)(struct build *g))
+{
+    if (nops_alone)
+        build_nops(g);
+    else
+        usual(g);
+}
+
+void lend(struct call *c, const struct build *g)
+{
+    share(g->piece, 0, g->high < g->len ? g->len : g->high);
+    c->len[g->piece] = g->len;
+}
+
+static void choose_lookup(struct call *c)
+{
+    struct build g = begin_build(BUFFER, 0, false);
+    for (size_t i = 0; i < COUNT(g.id); i++)
+        g.id[i] = any_id();
+    build(&g, build_buffer);
+    lend(c, &g);
+    c->n[0] = percent(75) ? g.id[below(COUNT(g.id))] : any_id();
+}
+
+/* A vCPU that is there, or numbers close to one. */
+static void choose_vcpu(struct call *c)
+{
+    unsigned w = used_word();
+    if (w == 0 || percent(12)) {
+        c->n[1] = any_guest();
+        c->n[2] = any_vcpu();
+        return;
+    }
+    c->n[1] = w >> 11 & 15;
+    c->n[2] = w & 2047;
+    if (percent(3))
+        c->n[1] = alias(c->n[1], 4);
+    if (percent(3))
+        c->n[2] = alias(c->n[2], 11);
+}
+
+/* Of one target, with a new buffer or as the last such call was given and left it: so a get reads what a set has just
+   set, and a set puts back what a get has read. */
+static void choose_state(struct call *c)
+{
+    static struct call last;
+    lend_store(c);
+    if (percent(12)) {
+        *c = (struct call){ c->kind, { c->len[STORE], last.len[BUFFER] }, { 0, last.n[1], last.n[2] } };
+    } else {
+        struct build g = begin_build(BUFFER, c->kind->access, c->kind->wide);
+        for (size_t i = 0; i < COUNT(g.id); i++)
+            g.id[i] = taken_id(&g);
+        build(&g, build_state);
+        lend(c, &g);
+        choose_vcpu(c);
+        if (c->kind->wide && percent(50))
+            c->n[2] = any_number();
+    }
+    c->n[0] = any_flags(0) & ~ADK_GUEST_WIDE;
+    if (c->kind->wide)
+        c->n[0] |= ADK_GUEST_WIDE;
+    last = *c;
+}
+
+/* ---- What a run is given ---- */
+
+#define RUN_FLAGS (ADK_RUN_EXTERNAL_INTERRUPT | ADK_RUN_PRIVILEGED_DOORBELL | ADK_RUN_SYSTEM_RESET)
+
+const uint64_t EXITS[] = { 0x000, 0x980, 0xC00, 0xE00, 0xE20, 0xE40, 0xF80 };
+
+const uint64_t NO_EXITS[] = {
+    0x001, 0x00C, 0x0C0, 0x100, 0x500, 0x900, 0x97F, 0x981, 0xBFF, 0xC01, 0xC20, 0xDFF, 0xE01, 0xE1F, 0xE21, 0xE3F,
+    0xE41, 0xE60, 0xE80, 0xF60, 0xF7F, 0xF81, 0xFFF, 0x1000, 0x1C00, 0x10000, 0x10C00, 0x100000000, 0x100000C00,
+    0x0C00000000000000, 0x8000000000000000, 0x8000000000000C00, 0xFFFFFFFFFFFFFC00, 0xFFFFFFFFFFFFFFFF
+};
+
+static uint64_t any_exit(void)
+{
+    uint64_t known = EXITS[below(COUNT(EXITS))];
+    switch (below(16)) {
+    case 0: return NO_EXITS[below(COUNT(NO_EXITS))];
+    case 1: return percent(50) ? alias(known, 0) : any_number();
+    default: return known;
+    }
+}
+
+/* An element of some exit's output. */
+static unsigned output_id(void)
+{
+    switch (below(3)) {
+    case 0: return 0xF000 + below(4);
+    case 1: return 0x102D;
+    default: return 0x1003 + below(10);
+    }
+}
+
+unsigned slot_of(const struct call *c)
+{
+    unsigned slot = 0;
+    if (c->n[1] > 15 || c->n[2] > ADK_VCPU_MAX)
+        return ADK_SLOTS;
+    while (slot < ADK_SLOTS && slot_word(slot) != word_of(c->n[1], (unsigned)c->n[2]))
+        slot++;
+    return slot;
+}
+
+/* The place in the store of element 0x0C00 or 0x0C01; the size is in its second 8 bytes. */
+static size_t registration_at(unsigned slot, unsigned id)
+{
+    return SLOT_VALUES + SLOT_SIZE * slot + 16 * (id - 0x0C00);
+}
+
+uint64_t registered_size(unsigned slot, unsigned id)
+{
+    return load(memory[BEFORE][STORE] + registration_at(slot, id) + 8, 8);
+}
+
+void put_registered_size(unsigned slot, unsigned id, uint64_t size)
+{
+    store_number(memory[BEFORE][STORE] + registration_at(slot, id) + 8, 8, size);
+}
+
+/* Registers a run buffer for so many bytes, or near that, at an edge, as anything, or leaves what set state set. Value
+   bytes are free, so sizes that break the rule are put there too. */
+static void register_buffer(unsigned slot, unsigned id, size_t size)
+{
+    size_t at = registration_at(slot, id);
+    switch (below(24)) {
+    case 0: put_registered_size(slot, id, any_number()); break;
+    case 1: put_edge(memory[BEFORE][STORE] + at, id, false); break;
+    case 2: put_edge(memory[BEFORE][STORE] + at, id, true); break;
+    case 3:
+    case 4: put_registered_size(slot, id, size - below(24)); break;
+    case 5:
+    case 6: put_registered_size(slot, id, size + below(64)); break;
+    case 7: break;
+    default: put_registered_size(slot, id, size); break;
+    }
+    share(STORE, at, 16);
+}
+
+/* How much of a run buffer is lent: as registered, one byte or many less or more, or so many bytes. */
+static size_t lent_length(uint64_t registered, size_t otherwise)
+{
+    if (registered > ADK_BUFFER_MAX + 1)
+        return otherwise;
+    switch (below(20)) {
+    case 0: return registered - (registered > 0);
+    case 1: return below((unsigned)registered + 1);
+    case 2: return registered + 1;
+    case 3: return registered + below(300);
+    case 4: return otherwise;
+    default: return registered;
+    }
+}
+
+/* Registers the run buffers of the vCPU and lends them. The input is built; the output's first bytes are anything, so
+   that each byte which is written or left shows. */
+static void lend_run_buffers(struct call *c)
+{
+    size_t input = c->len[INPUT], output = ADK_RUN_OUTPUT_MIN + (percent(70) ? 0 : below(200));
+    unsigned slot = slot_of(c);
+    any_bytes(memory[BEFORE][OUTPUT], 160);
+    share(OUTPUT, 0, 160);
+    c->len[OUTPUT] = output;
+    if (slot == ADK_SLOTS)
+        return;
+    register_buffer(slot, 0x0C00, input);
+    register_buffer(slot, 0x0C01, output);
+    c->len[INPUT] = lent_length(registered_size(slot, 0x0C00), input);
+    c->len[OUTPUT] = lent_length(registered_size(slot, 0x0C01), output);
+}
+
+/* Input and effect share IDs with each other and with the outputs: so it shows which came last. */
+static void choose_run_vcpu(struct call *c)
+{
+    struct build input = begin_build(INPUT, RUN_IN, false), effect = begin_build(EFFECT, RUN_EFFECT, false);
+    lend_store(c);
+    choose_vcpu(c);
+    c->n[0] = any_flags(any64() & RUN_FLAGS);
+    c->n[3] = any_exit();
+    for (size_t i = 0; i < COUNT(effect.id); i++) {
+        effect.id[i] = percent(60) ? output_id() : taken_id(&effect);
+        input.id[i] = takes(RUN_IN, false, row_of(effect.id[i])) ? effect.id[i] : taken_id(&input);
+    }
+    build(&input, build_run);
+    lend(c, &input);
+    build(&effect, build_run);
+    lend(c, &effect);
+    lend_run_buffers(c);
+}
+
+/* ---- Damage to a store ---- */
+
+void put_word(uint8_t *h, unsigned slot, unsigned w)
+{
+    store_number(h + WORDS + 2 * slot, 2, w);
+}
+
+/* A word of this guest in any slot. */
+static unsigned put_guest(uint8_t *h, uint64_t guest)
+{
+    unsigned w = word_of(guest, below(2048));
+    put_word(h, below(ADK_SLOTS), w);
+    return w;
+}
+
+/* Two slots with one pair, or with pairs that differ in one bit of the vCPU id. */
+static void pair_twice(uint8_t *h)
+{
+    unsigned w = used_word();
+    if (w == 0)
+        w = put_guest(h, live_guest());
+    if (percent(40))
+        w ^= 1u << below(11);
+    put_word(h, below(ADK_SLOTS), w);
+}
+
+/* A word that is not used and not zero: made so, or by clearing the used bit. */
+static void word_unused(uint8_t *h)
+{
+    unsigned slot = below(ADK_SLOTS);
+    unsigned w = slot_word(slot) & 0x7FFF;
+    if (w == 0 || percent(50))
+        w = percent(50) ? 1u << below(15) : 1 + below(0x7FFF);
+    put_word(h, slot, w);
+}
+
+/* All guests live and all slots used: well formed, or with one pair twice. */
+static void full_house(uint8_t *h)
+{
+    unsigned first = below(2048);
+    h[LIVE] = 0xFF;
+    for (unsigned i = 0; i < ADK_SLOTS; i++)
+        put_word(h, i, word_of(1 + below(ADK_GUESTS), (first + i) % 2048));
+    if (percent(60)) {
+        unsigned w = (unsigned)load(h + WORDS + 2 * below(ADK_SLOTS), 2);
+        put_word(h, below(ADK_SLOTS), w);
+    }
+}
+
+static void capabilities_wrong(uint8_t *h)
+{
+    if (percent(20))
+        any_bytes(h, 8);
+    else
+        flip_bit(h, 8);
+}
+
+/* Some of these leave the store well formed, and then the call must go through. */
+static void damage_header(uint8_t *h)
+{
+    switch (below(12)) {
+    case 0: any_bytes(h, HEADER); break;
+    case 1: any_bytes(h + below(HEADER), 1); break;
+    case 2: flip_bit(h, HEADER); flip_bit(h, HEADER); break;
+    case 3: pair_twice(h); break;
+    case 4: put_guest(h, below(16)); break;
+    case 5: word_unused(h); break;
+    case 6: h[ZERO] = (uint8_t)(percent(50) ? 1u << below(8) : 1 + below(255)); break;
+    case 7: capabilities_wrong(h); break;
+    case 8: h[LIVE] = (uint8_t)(percent(50) ? below(256) : h[LIVE] & ~(1u << below(8))); break;
+    case 9: full_house(h); break;
+    default: flip_bit(h, HEADER); break;
+    }
+}
+
+/* A damaged header stays for a few calls and is then put back, so that the history goes on. */
+static uint8_t saved_header[HEADER];
+static unsigned damaged_for;
+
+static void damage_or_repair(void)
+{
+    uint8_t *h = memory[BEFORE][STORE];
+    if (damaged_for > 0) {
+        if (--damaged_for > 0)
+            return;
+        memcpy(h, saved_header, HEADER);
+    } else if (percent(12)) {
+        memcpy(saved_header, h, HEADER);
+        damage_header(h);
+        damaged_for = 1 + below(5);
+    } else {
+        return;
+    }
+    share(STORE, 0, HEADER);
+}
+
+/* Value bytes are free: they are made anything, so that what a call zeroes, keeps or adds shows. */
+static void stir_values(void)
+{
+    size_t at = HEADER, n = ADK_STORE_SIZE - HEADER;
+    uint8_t *s = memory[BEFORE][STORE];
+    if (percent(90)) {
+        at = percent(50) ? at + below((unsigned)n) : at + below(8 * GUEST_SIZE);
+        n = 1 + below(64);
+        if (n > ADK_STORE_SIZE - at)
+            n = ADK_STORE_SIZE - at;
+    }
+    any_bytes(s + at, n);
+    share(STORE, at, n);
+}
+
+static void set_tb_offset(void)
+{
+    size_t at = HEADER + GUEST_SIZE * below(ADK_GUESTS) + TB_OFFSET;
+    store_number(memory[BEFORE][STORE] + at, 8, any_number());
+    share(STORE, at, 8);
+}
+
+/* ---- The table of calls ---- */
+
+#define ON(name) .choose = choose_##name, .make = make_##name
+#define STATE(name) .choose = choose_state, .make = make_##name
+
+const struct kind KINDS[] = {
+    { "fresh_store", ON(fresh_store), .use = { [STORE] = WRITTEN }, .weight = { 2, 2, 2 }, .answers = A(0) | A(1) },
+    { "get_capabilities", ON(get_capabilities), .number = { "flags" }, .use = { [STORE] = READ },
+      .weight = { 16, 16, 16 }, .answers = A(0) | A(1) | A(2) },
+    { "set_capabilities", ON(set_capabilities), .number = { "flags", "bitmap" }, .use = { [STORE] = WRITTEN },
+      .weight = { 12, 12, 12 }, .answers = A(0) | A(1) | A(2) | A(3) },
+    { "create_guest", ON(create_guest), .number = { "flags", "token" }, .use = { [STORE] = WRITTEN },
+      .weight = { 30, 20, 8 }, .answers = A(0) | A(1) | A(2) | A(3) | A(9) },
+    { "create_vcpu", ON(create_vcpu), .number = { "flags", "guest", "vcpu" }, .use = { [STORE] = WRITTEN },
+      .weight = { 60, 40, 15 }, .answers = A(0) | A(1) | A(2) | A(3) | A(4) | A(10) | A(9) },
+    { "get_state thread", STATE(get_state), .number = { "flags", "guest", "vcpu" },
+      .use = { [STORE] = READ, [BUFFER] = WRITTEN }, .weight = { 50, 60, 20 },
+      .answers = A(0) | A(1) | A(2) | A(3) | A(4) | A(5) | A(6) | A(7), .both = A(6) | A(7),
+      .supported = ADK_GUEST_WIDE, .access = R, .wide = false },
+    { "get_state wide", STATE(get_state), .number = { "flags", "guest", "vcpu" },
+      .use = { [STORE] = READ, [BUFFER] = WRITTEN }, .weight = { 25, 30, 15 },
+      .answers = A(0) | A(1) | A(2) | A(3) | A(5) | A(6) | A(7), .both = A(6) | A(7),
+      .supported = ADK_GUEST_WIDE, .access = R, .wide = true },
+    { "set_state thread", STATE(set_state), .number = { "flags", "guest", "vcpu" },
+      .use = { [STORE] = WRITTEN, [BUFFER] = READ }, .weight = { 70, 90, 30 },
+      .answers = A(0) | A(1) | A(2) | A(3) | A(4) | A(5) | A(6) | A(7) | A(8), .both = A(6) | A(7) | A(8),
+      .supported = ADK_GUEST_WIDE, .access = W, .wide = false },
+    { "set_state wide", STATE(set_state), .number = { "flags", "guest", "vcpu" },
+      .use = { [STORE] = WRITTEN, [BUFFER] = READ }, .weight = { 40, 50, 25 },
+      .answers = A(0) | A(1) | A(2) | A(3) | A(5) | A(6) | A(7) | A(8), .both = A(6) | A(7) | A(8),
+      .supported = ADK_GUEST_WIDE, .access = W, .wide = true },
+    { "run_vcpu", ON(run_vcpu), .number = { "flags", "guest", "vcpu", "exit_reason" },
+      .use = { [STORE] = WRITTEN, [INPUT] = READ, [OUTPUT] = WRITTEN, [EFFECT] = READ }, .weight = { 130, 170, 50 },
+      .answers = A(0) | A(1) | A(2) | A(3) | A(4) | A(6) | A(7) | A(11) | A(12) | A(13) | A(14),
+      .both = A(11) | A(12) | A(14), .supported = RUN_FLAGS },
+    { "delete_guest", ON(delete_guest), .number = { "flags", "guest" }, .use = { [STORE] = WRITTEN },
+      .weight = { 3, 15, 40 }, .answers = A(0) | A(1) | A(2) | A(3), .supported = ADK_DELETE_ALL },
+    { "guest_clock", ON(guest_clock), .number = { "guest", "timebase" }, .use = { [STORE] = READ },
+      .weight = { 15, 15, 15 }, .answers = A(0) | A(1) | A(3) },
+    { "lookup", ON(lookup), .number = { "id" }, .use = { [BUFFER] = READ }, .weight = { 50, 50, 50 },
+      .answers = A(0) | A(5) | A(6) | A(7), .both = A(6) | A(7) },
+};
+
+bool is_run(const struct kind *k)
+{
+    return k->use[EFFECT] != NOT_LENT;
+}
+
+/* What is called most often changes now and then, so that the store fills and empties. */
+static unsigned mood;
+
+static const struct kind *any_kind(void)
+{
+    unsigned all = 0, k = 0;
+    for (size_t i = 0; i < COUNT(KINDS); i++)
+        all += KINDS[i].weight[mood];
+    for (unsigned at = below(all); at >= KINDS[k].weight[mood]; k++)
+        at -= KINDS[k].weight[mood];
+    return &KINDS[k];
+}
+
+/* ---- The night ---- */
+
+void begin_night(bool only_nops)
+{
+    nops_alone = only_nops;
+    mood = 0;
+    memset(memory[BEFORE][STORE], 0, ADK_STORE_SIZE);
+    share(STORE, 0, ADK_STORE_SIZE);
+}
+
+struct call next_call(uint64_t number)
+{
+    if (number % 256 == 0)
+        mood = below(MOODS);
+    damage_or_repair();
+    if (percent(4))
+        stir_values();
+    if (percent(4))
+        set_tb_offset();
+    struct call c = { any_kind(), { 0 }, { 0 } };
+    c.kind->choose(&c);
+    return c;
+}

@@ -1,0 +1,73 @@
+/*
+ * night.h: a long mix of calls, chosen by chance: the table of the calls, and what each is given.
+ *
+ * A night is fixed by its seed and by what the library left in BEFORE; what the other side does never changes it. Most
+ * calls are good ones, so that stores fill and vCPUs run, and each edge of a rule is met. Between the calls values are
+ * stirred, and headers damaged for a while. To add a call: its entry in l0.h, then in night.c its numbers' makers, a
+ * line MAKE, and a row of KINDS.
+ */
+#ifndef NIGHT_H
+#define NIGHT_H
+
+#include "gsb.h"
+#include "l0.h"
+
+enum { NUMBERS = 4, MOODS = 3, ANSWERS = 16, KIND_COUNT = 13, EXIT_COUNT = 7, NO_EXIT_COUNT = 34 };
+enum use { NOT_LENT, READ, WRITTEN };
+
+#define A(n) (1u << (n))
+
+struct call {
+    const struct kind *kind;
+    size_t len[PIECES];
+    uint64_t n[NUMBERS];
+};
+
+/* Get and set state have a row for each scope, so that the answers of each are counted. */
+extern const struct kind {
+    const char *name;
+    const char *number[NUMBERS];
+    enum use use[PIECES];
+    unsigned weight[MOODS]; /* how often, in a mood that fills the store, mixes, or empties it */
+    unsigned answers;       /* the answers that it can give, as bits */
+    unsigned both;          /* of these the ones that it gives with r4 0 and with another r4 */
+    uint64_t supported;     /* the flag bits that it supports */
+    void (*choose)(struct call *c);
+    adk_found (*make)(const struct l0 *on, const struct call *c, uint8_t *const *m);
+    unsigned access; /* of get and set state: what they ask of an element, R or W, and its scope */
+    bool wide;
+} KINDS[KIND_COUNT];
+
+bool is_run(const struct kind *k);
+
+/* Exit reasons; and numbers close to one, other interrupts, and exit reasons where only the low or the high bits are
+   kept. */
+extern const uint64_t EXITS[EXIT_COUNT], NO_EXITS[NO_EXIT_COUNT];
+
+/* Begins with a fresh store. only_nops: every guest state buffer holds NOPs and nothing else. */
+void begin_night(bool only_nops);
+
+/* The call of this number, and in BEFORE and on both sides what it is lent. */
+struct call next_call(uint64_t number);
+
+/* Lends what was built. */
+void lend(struct call *c, const struct build *g);
+
+/* The bytes of a piece that are compared: what was lent and, of a store lent too short, the rest. */
+size_t extent(const struct call *c, enum piece p);
+
+bool same_answer(const adk_found *a, const adk_found *b);
+
+/* ---- What the store before the call holds ---- */
+
+unsigned word_of(uint64_t guest, unsigned vcpu);
+void put_word(uint8_t *header, unsigned slot, unsigned word);
+
+/* The slot of the vCPU that the call names, or ADK_SLOTS. */
+unsigned slot_of(const struct call *c);
+
+/* The size in element 0x0C00 or 0x0C01 of a slot. */
+uint64_t registered_size(unsigned slot, unsigned id);
+void put_registered_size(unsigned slot, unsigned id, uint64_t size);
+
+#endif
