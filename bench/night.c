@@ -7,10 +7,10 @@
 
 /* ---- A call made, on any L0 ---- */
 
-#define MAKE(form, name, ...)                                                                         \
-    static adk_found make_##name(const struct l0 *on, const struct call *c, uint8_t *const *m)        \
-    {                                                                                                 \
-        return form(on->name(__VA_ARGS__));                                                           \
+#define MAKE(form, name, ...)                                                                  \
+    static adk_found make_##name(const struct l0 *on, const struct call *c, uint8_t *const *m) \
+    {                                                                                          \
+        return form(on->name(__VA_ARGS__));                                                    \
     }
 
 static adk_found as_is(adk_found f)

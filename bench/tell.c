@@ -5,7 +5,7 @@
 #include <stdio.h>
 #include <string.h>
 
-const char *answer_name(uint64_t r3)
+static const char *answer_name(uint64_t r3)
 {
     static const char *const names[] = {
         "success", "store not well formed", "unsupported flag", "bad parameter", "bad vCPU", "bad length",
@@ -75,6 +75,7 @@ static unsigned element_at(size_t at, bool wide)
 /* What a byte of a store is part of. */
 static void print_place(size_t at)
 {
+    size_t in_guests = at - HEADER, in_slots = at - SLOT_VALUES;
     if (at < LIVE)
         printf(" (capabilities)");
     else if (at < WORDS)
@@ -82,9 +83,9 @@ static void print_place(size_t at)
     else if (at < HEADER)
         printf(" (word of slot %zu)", (at - WORDS) / 2);
     else if (at < SLOT_VALUES)
-        printf(" (guest %zu, 0x%04X)", (at - HEADER) / GUEST_SIZE + 1, element_at((at - HEADER) % GUEST_SIZE, true));
+        printf(" (guest %zu, 0x%04X)", in_guests / GUEST_SIZE + 1, element_at(in_guests % GUEST_SIZE, true));
     else if (at < ADK_STORE_SIZE)
-        printf(" (slot %zu, 0x%04X)", (at - SLOT_VALUES) / SLOT_SIZE, element_at((at - SLOT_VALUES) % SLOT_SIZE, false));
+        printf(" (slot %zu, 0x%04X)", in_slots / SLOT_SIZE, element_at(in_slots % SLOT_SIZE, false));
 }
 
 /* The differing bytes of one piece; told is how many are printed so far, of at most so many. */

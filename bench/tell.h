@@ -4,9 +4,6 @@
 
 #include "night.h"
 
-/* What an answer is called, by r3. */
-const char *answer_name(uint64_t r3);
-
 /* The name of the call and its numbers. */
 void print_call(const struct call *c);
 
