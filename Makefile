@@ -1,6 +1,6 @@
 # make help tells the targets.
 CC = cc
-CFLAGS = -std=c11 -Wall -Wextra -Wpedantic -O2
+CFLAGS = -std=c11 -Wall -Wextra -Wpedantic -O2 $(WERROR)
 PREFIX ?= /usr/local
 INCLUDEDIR ?= $(PREFIX)/include
 LIBDIR ?= $(PREFIX)/lib
@@ -15,6 +15,7 @@ headers = include/adderknot.h $(wildcard bench/*.h)
 night = $(addprefix bench/,night.c gsb.c lent.c chance.c tell.c)
 
 .PHONY: all bench run score speed listing test install uninstall clean tools help
+.PHONY: compiler
 .DELETE_ON_ERROR:
 .PRECIOUS: $(bench)/vendor-%.c
 
@@ -52,15 +53,18 @@ uninstall: ## remove what install installs
 clean: ## remove all that was built, the proved crates too
 	rm -rf target
 
-tools: ## install from Debian's packages what a fresh machine may lack
-	@command -v $(CC) >/dev/null && command -v objdump >/dev/null && command -v pkg-config >/dev/null || \
-	    (apt-get update -qq && apt-get install -y -qq gcc libc6-dev binutils pkg-config)
+tools: compiler ## install from Debian's packages what the tests need and a fresh machine may lack
+	@command -v objdump >/dev/null && command -v pkg-config >/dev/null || \
+	    (apt-get update -qq && apt-get install -y -qq binutils pkg-config)
+
+compiler:
+	@command -v $(CC) >/dev/null || (apt-get update -qq && apt-get install -y -qq gcc libc6-dev)
 
 help: ## this text
 	@awk -F ':.*## ' '/^[a-z]+:.*## / { printf "make %-10s %s\n", $$1, $$2 }' Makefile
 
 # rt leaves an archive alone whose sources are as they were, so its time is set here.
-$(archive): crates.txt $(shell find crates -name '*.rt' -o -name '*.antt') | tools
+$(archive): crates.txt $(shell find crates -name '*.rt' -o -name '*.antt') | compiler
 	rt staticlib adderknot
 	touch $@
 
@@ -82,7 +86,7 @@ $(bench)/example: README.md include/adderknot.h $(archive)
 # The model under the names of adderknot.h: as it is, and with each of the mistakes.
 as_vendor = $(CC) $(CFLAGS) -shared -fPIC -Iinclude -Ibench -include bench/rename.h
 
-$(bench)/model.so: bench/model.c $(headers) | tools
+$(bench)/model.so: bench/model.c $(headers) | compiler
 	mkdir -p $(bench)
 	$(as_vendor) $< -o $@
 
@@ -90,5 +94,5 @@ $(bench)/vendor-%.c: bench/mistakes/%.edit bench/model.c bench/edit.awk
 	mkdir -p $(bench)
 	awk -f bench/edit.awk $< bench/model.c > $@
 
-$(bench)/vendor-%.so: $(bench)/vendor-%.c $(headers) | tools
+$(bench)/vendor-%.so: $(bench)/vendor-%.c $(headers) | compiler
 	$(as_vendor) $< -o $@
