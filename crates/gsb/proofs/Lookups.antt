@@ -2,7 +2,7 @@
 use mathlib.Core.Path.{_≡_, refl, sym, ap, _∙_, subst}
 use mathlib.Core.Bool.{Bool, true, false, cond, _||_, true≢false}
 use mathlib.Core.List.{List, [], _∷_}
-use Prim.Native.Nat.{ℕ, suc, _+_, _-_, _≤_, _<_}
+use Prim.Native.Nat.{ℕ, suc, _+_, _-_, _*_, _^_, _≤_, _<_}
 use native.Mathlib.Numerals.{add-one}
 use native.Mathlib.Omega.{arith}
 use lib.Dec.{ltb, eqb}
@@ -14,6 +14,7 @@ use Rattle.answer.specs.declared.Bad.{Bad}
 use Rattle.answer.specs.declared.Bad.the-variants.{Id, Size}
 use Rattle.answer.specs.declared.Answer.{Answer}
 use Rattle.answer.specs.declared.Fault.the-variants.{None, Length, Element}
+use Rattle.elements.specs.Rules.{between}
 use Rattle.gsb.specs.declared.Verdict.{Verdict}
 use Rattle.gsb.specs.declared.Verdict.the-variants.{Good, Faulty}
 use Rattle.gsb.specs.declared.Walked.{Walked}
@@ -24,6 +25,7 @@ use Rattle.gsb.specs.declared.Found.{Found}
 use Rattle.gsb.specs.Walk.{countOf, idAt, sizeAt, nextAt, offsetAt, badLength, walk}
 use Rattle.gsb.specs.Lookup.{framed, lastWith, Inside, notFound, partOf, unlessCut, lookedUp, valueOf}
 use Rattle.gsb.proofs.Judged.{passed}
+use Rattle.gsb.proofs.Quick.{between-low, between-high}
 use Rattle.gsb.proofs.Walks.{walk-end, walk-bad}
 
 -- ---- an element's frame
@@ -47,6 +49,23 @@ module _ (b : List ℕ) (at : ℕ) where
       let t : at + 4 ≤ length b = omega arith in
       let u : nextAt b at ≤ length b = omega arith in
       rw e (simp (le-ltb _ _ t, le-ltb _ _ u))
+
+  -- a size that the number above the ID tells
+  module _ (size key : ℕ) (r : Bool) (room : 4 ≤ length b - at) (e : size ≡ sizeAt b at) (l : size ≤ length b - at - 4)
+      (k : key ≡ sizeAt b at * 2 ^ 16 + idAt b at) (i : idAt b at < 2 ^ 16) where
+    pub framed-eight : r ≡ between 0x80000 0x8FFFF key → r ≡ true → Good (at + 12) ≡ framed b at
+    framed-eight p q =
+        let low : 0x80000 ≤ key = between-low _ _ _ (sym p ∙ q) in
+        let high : key ≤ 0x8FFFF = between-high _ _ _ (sym p ∙ q) in
+        let n : at + 12 ≡ at + 4 + size = omega arith in
+        ap Good n ∙ framed-good size room e l
+
+    pub framed-sixteen : r ≡ between 0x100000 0x10FFFF key → r ≡ true → Good (at + 20) ≡ framed b at
+    framed-sixteen p q =
+        let low : 0x100000 ≤ key = between-low _ _ _ (sym p ∙ q) in
+        let high : key ≤ 0x10FFFF = between-high _ _ _ (sym p ∙ q) in
+        let n : at + 20 ≡ at + 4 + size = omega arith in
+        ap Good n ∙ framed-good size room e l
 
   pub framed-inside : (next : ℕ) (v : Verdict) → v ≡ framed b at → v ≡ Good next → (next ≡ nextAt b at) × (nextAt b at ≤ length b)
   unfolding framed

@@ -7,17 +7,15 @@ use native.Mathlib.Omega.{arith}
 use lib.Dec.{leb, eqb}
 use lib.ListN.{length}
 use borrow.Author.Tests.{leb-true, ne-eqb}
-use Rattle.elements.specs.declared.Access.{Access}
 use Rattle.elements.specs.declared.Access.the-variants.{Write, ReadWrite}
 use Rattle.elements.specs.declared.Context.{Context}
-use Rattle.elements.specs.declared.Kind.{Kind}
 use Rattle.elements.specs.Table.{kindOf}
-use Rattle.elements.specs.Rules.{between, permits, sizeFits}
+use Rattle.elements.specs.Rules.{between, sizeFits}
 use Rattle.elements.specs.Private.{threadKind, ofThread}
 use Rattle.elements.proofs.Find.{kind-register, kind-word, kind-vector}
 use Rattle.elements.proofs.Rules.{permits-register, value-register}
 use Rattle.gsb.specs.declared.Verdict.{Verdict}
-use Rattle.gsb.specs.declared.Verdict.the-variants.{Good, Faulty}
+use Rattle.gsb.specs.declared.Verdict.the-variants.{Good}
 use Rattle.gsb.specs.Walk.{idAt, sizeAt, judged}
 use Rattle.gsb.specs.Private.{Hasty}
 use Rattle.gsb.proofs.Judged.{judged-good, empty-good}
@@ -49,7 +47,7 @@ register-read : (id : ℕ) → (id ≡ 0x103A → ⊥) → ReadWrite ≡ cond (e
 register-read id h = sym (simp (ne-eqb _ _ h))
 
 -- by the number, as it was read
-module _ (b : List ℕ) (at key : ℕ) (thread : Bool) (room : 20 ≤ length b - at) (e : key ≡ sizeAt b at * 2 ^ 16 + idAt b at)
+module _ (b : List ℕ) (at key : ℕ) (thread : Bool) (room : 12 ≤ length b - at) (e : key ≡ sizeAt b at * 2 ^ 16 + idAt b at)
     (l : idAt b at < 2 ^ 16) (t : not thread ≡ false) where
   is-thread : (k : Context) → thread ≡ ofThread (k .usage) → true ≡ ofThread (k .usage)
   is-thread k h = go thread t h
@@ -79,10 +77,11 @@ module _ (b : List ℕ) (at key : ℕ) (thread : Bool) (room : 20 ≤ length b -
       let f : between 0x8103B 0x81053 key ≡ true = sym p ∙ q in
       double 0x8103B 0x81053 (omega arith) (omega arith) (λ n x y z. omega arith) (between-low _ _ _ f) (between-high _ _ _ f)
 
-  pub quick-vector : (r : Bool) → r ≡ between 0x103000 0x10303F key → r ≡ true → Hasty (Good (at + 20)) thread b at
+  pub quick-vector : (r : Bool) → r ≡ between 0x103000 0x10303F key → r && leb 20 (length b - at) ≡ true → Hasty (Good (at + 20)) thread b at
   unfolding sizeFits
   quick-vector r p q k u =
-      let f : between 0x103000 0x10303F key ≡ true = sym p ∙ q in
+      let f : between 0x103000 0x10303F key ≡ true = sym p ∙ and-left r _ q in
+      let long : 20 ≤ length b - at = leb-true _ _ (and-right r _ q) in
       let low : 0x103000 ≤ key = between-low _ _ _ f in
       let high : key ≤ 0x10303F = between-high _ _ _ f in
       let s : 16 ≡ sizeAt b at = omega arith in
@@ -104,7 +103,7 @@ module _ (b : List ℕ) (at key : ℕ) (thread : Bool) (room : 20 ≤ length b -
       (kind-word (idAt b at) (omega arith) (omega arith)) s (omega arith)
 
 -- an empty NOP, in every use
-pub quick-empty : (b : List ℕ) (at key : ℕ) (thread : Bool) → 20 ≤ length b - at → key ≡ sizeAt b at * 2 ^ 16 + idAt b at → key ≡ 0
+pub quick-empty : (b : List ℕ) (at key : ℕ) (thread : Bool) → 12 ≤ length b - at → key ≡ sizeAt b at * 2 ^ 16 + idAt b at → key ≡ 0
     → Hasty (Good (at + 4)) thread b at
 quick-empty b at key thread room e z k u = empty-good k b at (omega arith) (omega arith) (omega arith)
 

@@ -8,6 +8,8 @@ use answer::Fault;
 use answer::Place;
 use answer::refusal;
 use answer::success;
+use elements::within;
+use octets::get_turned;
 use octets::get16;
 use octets::get32;
 ghost use mathlib.Core.Path.{_≡_};
@@ -18,6 +20,7 @@ ghost use lib.ListN.{length};
 ghost use Rattle.gsb.specs.Walk.{idAt, sizeAt, countOf};
 ghost use Rattle.gsb.specs.Lookup.{framed, notFound, Inside, partOf, lookedUp, valueOf};
 
+// The sizes of nearly all elements are told by the number above them, so that the next element does not wait for this one's.
 fn frame(b: &[u8], at: usize) -> Verdict
     requires { ⌜ at ≤ length (now b) ⌝ }
     ensures { λ r. ⌜ r ≡ framed (now (b .entry)) at ⌝ }
@@ -28,6 +31,13 @@ fn frame(b: &[u8], at: usize) -> Verdict
     let size = get16(b, at + 2) as usize;
     if b.len() - at - 4 < size {
         return Verdict::Faulty(Bad::Size);
+    }
+    let key = get_turned(b, at) as u64;
+    if within(0x8_0000, 0x8_FFFF, key) {
+        return Verdict::Good(at + 12);
+    }
+    if within(0x10_0000, 0x10_FFFF, key) {
+        return Verdict::Good(at + 20);
     }
     Verdict::Good(at + 4 + size)
 }

@@ -78,14 +78,14 @@ fn quick(b: &[u8], at: usize, thread: bool) -> Verdict
     if !thread {
         return Verdict::Faulty(Bad::Size);
     }
-    if b.len() - at < 20 {
+    if b.len() - at < 12 {
         return Verdict::Faulty(Bad::Size);
     }
     let key = get_turned(b, at) as u64;
     if within(0x8_1000, 0x8_1039, key) {
         return Verdict::Good(at + 12);
     }
-    if within(0x10_3000, 0x10_303F, key) {
+    if within(0x10_3000, 0x10_303F, key) & (20 <= b.len() - at) {
         return Verdict::Good(at + 20);
     }
     if within(0x8_103B, 0x8_1053, key) {

@@ -15,7 +15,7 @@ pub fn wide(x: u8) -> u64
 
 // Bytes swapped: a big-endian number and the little-endian one of the same bytes. The machine is little-endian, so the
 // compiler makes one load or store of what follows, and one instruction of each swap, before it weighs what to put in line.
-fn swap16(v: u16) -> u16
+pub fn swap16(v: u16) -> u16
     ensures { λ r. ⌜ r ≡ swap2 v ⌝ }
 {
     v % 256 * 256 + v / 256
@@ -34,8 +34,8 @@ fn swap64(v: u64) -> u64
         + swap32((v / 0x1_0000_0000) as u32) as u64
 }
 
-// Two bytes as the machine reads them.
-fn pair(b: &[u8], at: usize) -> u16
+// Two bytes as the machine reads them: enough to tell whether they are those of a number that was swapped once.
+pub fn pair(b: &[u8], at: usize) -> u16
     requires { ⌜ at + 2 ≤ length (now b) ⌝ }
     ensures { λ r. ⌜ (r ≡ swap2 (be (now (b .entry)) at 2)) × (be (now (b .entry)) at 2 < 2 ^ 16) ⌝ }
 {

@@ -31,35 +31,38 @@ returns-3 c = search (needs, quick-low)
 within-requires-2 : tie.Need-within-requires-2
 within-requires-2 c κs = search needs
 
-add-t14 : tie.Need-add-t14
-add-t14 c = search needs
+sub-if4 : tie.Need-sub-if4
+sub-if4 c = search needs
+
+add-t15 : tie.Need-add-t15
+add-t15 c = search needs
 
 returns-4 : tie.Need-returns-4
-returns-4 c = search (needs, quick-vector)
+returns-4 c = quick-vector _ _ _ _ (c .before .before .before .before .before .if2 .left) (c .before .before .before .before .get-turned .ensures .0) (c .before .before .before .before .get-turned .ensures .1) (c .before .before .before .before .before .before .if1 .left) _ (c .before .within2 .ensures) (c .if4 .taken)
 
 within-requires-3 : tie.Need-within-requires-3
 within-requires-3 c κs = search needs
 
-add-t16 : tie.Need-add-t16
-add-t16 c = search needs
+add-t17 : tie.Need-add-t17
+add-t17 c = search needs
 
 returns-5 : tie.Need-returns-5
-returns-5 c = search (needs, quick-high)
+returns-5 c = quick-high _ _ _ _ (c .before .before .before .before .before .before .before .if2 .left) (c .before .before .before .before .before .before .get-turned .ensures .0) (c .before .before .before .before .before .before .get-turned .ensures .1) (c .before .before .before .before .before .before .before .before .if1 .left) _ (c .before .within3 .ensures) (c .if5 .taken)
 
 within-requires-4 : tie.Need-within-requires-4
 within-requires-4 c κs = search needs
 
-add-t18 : tie.Need-add-t18
-add-t18 c = search needs
-
-returns-6 : tie.Need-returns-6
-returns-6 c = search (needs, quick-word)
-
 add-t19 : tie.Need-add-t19
 add-t19 c = search needs
 
+returns-6 : tie.Need-returns-6
+returns-6 c = quick-word _ _ _ _ (c .before .before .before .before .before .before .before .before .before .if2 .left) (c .before .before .before .before .before .before .before .before .get-turned .ensures .0) (c .before .before .before .before .before .before .before .before .get-turned .ensures .1) (c .before .before .before .before .before .before .before .before .before .before .if1 .left) _ (c .before .within4 .ensures) (c .if6 .taken)
+
+add-t20 : tie.Need-add-t20
+add-t20 c = search needs
+
 returns-7 : tie.Need-returns-7
-returns-7 c = search (needs, quick-empty)
+returns-7 c = quick-empty _ _ _ _ (c .before .before .before .before .before .before .before .before .before .before .if2 .left) (c .before .before .before .before .before .before .before .before .before .get-turned .ensures .0) (c .if7 .taken)
 
 returns-8 : tie.Need-returns-8
 returns-8 c = search needs
@@ -77,14 +80,15 @@ quick-spec =
     add-t12
     returns-3
     within-requires-2
-    add-t14
+    sub-if4
+    add-t15
     returns-4
     within-requires-3
-    add-t16
+    add-t17
     returns-5
     within-requires-4
-    add-t18
-    returns-6
     add-t19
+    returns-6
+    add-t20
     returns-7
     returns-8)
