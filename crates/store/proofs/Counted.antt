@@ -1,18 +1,18 @@
 -- No two used words are the same exactly if each stands once: the code counts. Assumes nothing.
 use mathlib.Core.Path.{_≡_, refl, sym, ap, _∙_}
 use mathlib.Core.Logic.{_≢_}
-use mathlib.Core.Bool.{Bool, true, false, not, _&&_, cond}
+use mathlib.Core.Bool.{Bool, true, false, _&&_, cond}
 use mathlib.Core.List.{List}
-use Prim.Native.Nat.{ℕ, _+_, _*_, _≤_, _<_}
+use Prim.Native.Nat.{ℕ, _*_, _≤_, _<_}
 use native.Mathlib.Omega.{arith}
 use native.Mathlib.Decide.{ℕ-discrete, decLt}
 use lib.Dec.{eqb, leb}
 use borrow.Author.Tests.{eq-eqb, ne-eqb, le-leb, leb-true, eqb-true}
 use Rattle.store.specs.declared.Layout.{Layout}
-use Rattle.store.specs.Search.{every, tally}
-use Rattle.store.specs.Header.{live, word, isUsed, guestOf, holds, lacks, alone, slotGood, wordsGood}
+use Rattle.store.specs.Search.{every}
+use Rattle.store.specs.Header.{live, word, isUsed, guestOf, holds, wordsGood}
 use Rattle.store.specs.Private.{timesOf, slotCounted}
-use Rattle.store.proofs.Search.{no-bool, both, every-all, every-at, tally-one, tally-two}
+use Rattle.store.proofs.Search.{both, every-all, every-at, tally-one, tally-two}
 use Rattle.store.proofs.Kept.{Words, words-are, words-good}
 
 same-bool : (a b : Bool) → (a ≡ true → b ≡ true) → (b ≡ true → a ≡ true) → a ≡ b

@@ -48,13 +48,11 @@ module _ (l : Layout) (s : List ℕ) (w : ℕ) where
   find-start = let e : l .slots ≡ l .slots - 0 = omega arith in ap (λ (n : ℕ). first (holds l s w) n 0) e
 
   module _ (f i : ℕ) (h : f ≡ first (holds l s w) (l .slots - i) i) where
-    pub find-hit : (x : ℕ) → i < l .slots → x ≡ word l s i → x ≡ w → i ≡ f
-    unfolding holds
-    find-hit x k e q = sym (h ∙ first-here (holds l s w) (l .slots) i k (eq-eqb _ _ (sym e ∙ q)))
+    pub find-hit : (x : Bool) → i < l .slots → x ≡ holds l s w i → x ≡ true → i ≡ f
+    find-hit x k e q = sym (h ∙ first-here (holds l s w) (l .slots) i k (sym e ∙ q))
 
-    pub find-miss : (x : ℕ) → i < l .slots → x ≡ word l s i → (x ≡ w → ⊥) → f ≡ first (holds l s w) (l .slots - (i + 1)) (i + 1)
-    unfolding holds
-    find-miss x k e q = h ∙ first-past (holds l s w) (l .slots) i k (ne-eqb _ _ (λ r. q (e ∙ r)))
+    pub find-miss : (x : Bool) → i < l .slots → x ≡ holds l s w i → x ≡ false → f ≡ first (holds l s w) (l .slots - (i + 1)) (i + 1)
+    find-miss x k e q = h ∙ first-past (holds l s w) (l .slots) i k (sym e ∙ q)
 
     pub find-end : l .slots ≤ i → i ≡ f
     find-end k = sym (h ∙ first-end (holds l s w) (l .slots) i k)

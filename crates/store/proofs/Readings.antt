@@ -1,23 +1,25 @@
 -- What the code reads from the store's bytes is what the header says. Assumes nothing.
 use mathlib.Core.Path.{_≡_, refl, sym, ap, ap₂, _∙_}
 use mathlib.Core.Logic.{_≢_}
-use mathlib.Core.Bool.{Bool, true, false, not, _&&_}
+use mathlib.Core.Bool.{false}
 use mathlib.Core.List.{List}
-use Prim.Native.Nat.{ℕ, zero, suc, _+_, _-_, _*_, _/_, _%_, _^_, _≤_, _<_}
+use Prim.Native.Nat.{ℕ, _+_, _-_, _*_, _/_, _%_, _^_, _≤_, _<_}
 use native.Mathlib.Omega.{arith}
-use native.Mathlib.Nat.{mul-le-mul-left, mul-suc, mod-eq-of-lt}
+use native.Mathlib.Nat.{mul-le-mul, mul-le-mul-left, mul-suc, mod-eq-of-lt, pow-le-pow-right, one-le-pow, mul-div-mul-right}
 use native.Mathlib.Decide.{ℕ-discrete}
-use lib.Dec.{eqb, leb}
-use lib.ListN.{length, getD}
-use lib.Pow.{split}
+use lib.Dec.{eqb}
+use lib.ListN.{getD}
+use lib.Pow.{split, pow-add}
 use borrow.Author.Tests.{eq-eqb, ne-eqb, le-leb, lt-leb}
 use Rattle.octets.specs.Bytes.{bytesAt, be}
 use Rattle.octets.specs.Bits.{bit, bits}
+use Rattle.octets.specs.Private.{swap2}
 use Rattle.octets.proofs.Numbers.{be-part}
+use Rattle.octets.proofs.Swaps.{swap2-same}
 use Rattle.octets.proofs.Bits.{bits-byte, bits-be, bit-front, bits-front}
 use Rattle.store.specs.declared.Layout.{Layout}
 use Rattle.store.specs.Layout.{Sound}
-use Rattle.store.specs.Header.{header, outside, offered, capabilitiesOf, live, wordAt, word, headGood}
+use Rattle.store.specs.Header.{header, outside, offered, capabilitiesOf, live, wordAt, word, holds, headGood}
 
 -- n fields of w bits: field i ends before the end
 pub step : (w i n : ℕ) → i < n → w * i + w ≤ w * n
@@ -26,6 +28,18 @@ step w i n h = omega (arith, mul-le-mul-left w h, mul-suc w i)
 bit-of : (s : List ℕ) (j x : ℕ) → x ≡ getD s (j / 8) 0 → x / 2 ^ (7 - j % 8) % 2 ≡ bit s j
 unfolding bit
 bit-of s j x e = ap (λ (y : ℕ). y / 2 ^ (7 - j % 8) % 2) e
+
+-- a byte's digit, shifted to the top
+shifted : (x k : ℕ) → x < 256 → k < 8 → x * 2 ^ k % 2 ^ 64 / 128 ≡ x / 2 ^ (7 - k)
+shifted x k h l =
+    let i : k ≤ 7 = omega arith in
+    let j : x ≤ 255 = omega arith in
+    let p : 2 ^ k ≤ 2 ^ 7 = pow-le-pow-right {n = 2} (omega arith) i in
+    let m : x * 2 ^ k ≤ 255 * 2 ^ 7 = mul-le-mul j p in
+    let e : x * 2 ^ k % 2 ^ 64 ≡ x * 2 ^ k = mod-eq-of-lt (omega arith) in
+    let q : 7 ≡ 7 - k + k = omega arith in
+    let c : 2 ^ 7 ≡ 2 ^ (7 - k) * 2 ^ k = ap (λ (n : ℕ). 2 ^ n) q ∙ pow-add 2 (7 - k) k in
+    ap (λ (y : ℕ). y / 128) e ∙ ap (λ (y : ℕ). x * 2 ^ k / y) c ∙ mul-div-mul-right x (2 ^ (7 - k)) (one-le-pow k 2 (omega arith))
 
 module _ (l : Layout) (h : Sound l) (s : List ℕ) where
   pub caps-read : (x : ℕ) → x ≡ be s 0 8 → x ≡ capabilitiesOf (header l s)
@@ -46,6 +60,13 @@ module _ (l : Layout) (h : Sound l) (s : List ℕ) where
       let e : l .width * l .slots ≡ 16 * l .slots = ap (λ (n : ℕ). n * l .slots) (h .two-bytes) in
       omega (arith, h .words)
 
+  -- the word as the machine reads it, against another
+  pub word-told : (i w x p : ℕ) → i < l .slots → ((k : ℕ) → getD s k 0 < 256) → x ≡ swap2 (be s (l .«words_at» + 2 * i) 2)
+      → be s (l .«words_at» + 2 * i) 2 < 2 ^ 16 → w < 2 ^ 16 → p ≡ swap2 w → eqb x p ≡ holds l (header l s) w i
+  unfolding holds
+  word-told i w x p k b e m n q =
+      swap2-same (be s (l .«words_at» + 2 * i) 2) w x p e m q n ∙ ap (λ (y : ℕ). eqb y w) (word-read i (be s (l .«words_at» + 2 * i) 2) k b refl)
+
   -- ---- live
   module _ (g : ℕ) where
     pub live-none : g < 1 → false ≡ live l (header l s) g
@@ -62,11 +83,15 @@ module _ (l : Layout) (h : Sound l) (s : List ℕ) where
         let p : 63 + g < 8 * l .«guests_at» = omega (arith, h .head, h .words, h .some-zeros) in
         simp (le-leb _ _ k, le-leb _ _ m) (ap (λ (y : ℕ). eqb y 1) (bit-of s (63 + g) x e ∙ sym (bit-front s (l .«guests_at») (63 + g) p)))
 
-    pub live-read : (x : ℕ) → 1 ≤ g → g ≤ l .guests → x ≡ getD s (8 + (g - 1) / 8) 0 → eqb (x / 2 ^ (7 - (g - 1) % 8) % 2) 1 ≡ live l (header l s) g
-    live-read x k m e =
+    pub live-read : (x : ℕ) → 1 ≤ g → g ≤ l .guests → x ≡ getD s (8 + (g - 1) / 8) 0 → x < 256
+        → eqb (x * 2 ^ ((g - 1) % 8) % 2 ^ 64 / 128 % 2) 1 ≡ live l (header l s) g
+    live-read x k m e b =
         let p : 8 + (g - 1) / 8 ≡ (63 + g) / 8 = omega arith in
         let q : (g - 1) % 8 ≡ (63 + g) % 8 = omega arith in
-        ap (λ (n : ℕ). eqb (x / 2 ^ (7 - n) % 2) 1) q ∙ live-bit x k m (e ∙ ap (λ (n : ℕ). getD s n 0) p)
+        let r : (g - 1) % 8 < 8 = omega arith in
+        ap (λ (y : ℕ). eqb (y % 2) 1) (shifted x ((g - 1) % 8) b r)
+        ∙ ap (λ (n : ℕ). eqb (x / 2 ^ (7 - n) % 2) 1) q
+        ∙ live-bit x k m (e ∙ ap (λ (n : ℕ). getD s n 0) p)
 
     pub live-byte : g ≤ l .guests → (63 + g) / 8 < l .«guests_at»
     live-byte m = omega (arith, h .head, h .words, h .some-zeros)

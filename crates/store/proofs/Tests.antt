@@ -1,8 +1,8 @@
 -- The tests of the definitions, in the form of the code's needs. Assumes nothing.
-use mathlib.Core.Path.{_≡_, refl, sym, ap, _∙_}
+use mathlib.Core.Path.{_≡_, sym, ap, _∙_}
 use mathlib.Core.Bool.{Bool, true, false, not, _&&_, cond}
 use mathlib.Core.List.{List}
-use Prim.Native.Nat.{ℕ, _+_, _-_, _*_, _/_, _≤_, _<_}
+use Prim.Native.Nat.{ℕ, _+_, _-_, _*_, _/_, _^_, _≤_, _<_}
 use native.Mathlib.Omega.{arith}
 use lib.Dec.{eqb, leb, ltb}
 use lib.ListN.{length}
@@ -26,18 +26,19 @@ module _ (l : Layout) (s : List ℕ) (a w : ℕ) (e : w ≡ word l s a) where
   pub slot-zero : w ≡ 0 → true ≡ slotCounted l s a
   slot-zero z = sym (slot-is ∙ simp (eq-eqb _ _ z))
 
-  pub slot-unused : (w ≡ 0 → ⊥) → w < l .ids * 2048 → false ≡ slotCounted l s a
+  pub slot-unused : (w ≡ 0 → ⊥) → w / 2048 < l .ids → false ≡ slotCounted l s a
   unfolding isUsed
-  slot-unused n h = sym (slot-is ∙ simp (ne-eqb _ _ n, lt-leb _ _ h))
+  slot-unused n h = let k : w < l .ids * 2048 = omega arith in sym (slot-is ∙ simp (ne-eqb _ _ n, lt-leb _ _ k))
 
-  module _ (n : w ≡ 0 → ⊥) (h : l .ids * 2048 ≤ w) (x : Bool) (f : x ≡ live l s (w / 2048 - l .ids)) where
+  module _ (n : w ≡ 0 → ⊥) (u : l .ids ≤ w / 2048) (x : Bool) (f : x ≡ live l s (w / 2048 - l .ids)) where
     pub slot-dead : not x ≡ true → false ≡ slotCounted l s a
     unfolding isUsed guestOf
-    slot-dead q = sym (slot-is ∙ simp (ne-eqb _ _ n, le-leb _ _ h, sym f ∙ not-true x q))
+    slot-dead q = let h : l .ids * 2048 ≤ w = omega arith in sym (slot-is ∙ simp (ne-eqb _ _ n, le-leb _ _ h, sym f ∙ not-true x q))
 
     pub slot-once : (y : ℕ) → not x ≡ false → y ≡ timesOf l s w → eqb y 1 ≡ slotCounted l s a
     unfolding isUsed guestOf
     slot-once y q r =
+        let h : l .ids * 2048 ≤ w = omega arith in
         ap (λ (m : ℕ). eqb m 1) r ∙ sym (slot-is ∙ simp (ne-eqb _ _ n, le-leb _ _ h, sym f ∙ not-false x q))
 
 -- ---- the slot of a vCPU
@@ -64,6 +65,12 @@ live-parts l s g h =
 -- a live guest's number is small enough for a slot word
 pub live-small : (l : Layout) (s : List ℕ) (g : ℕ) (x : Bool) → Sound l → x ≡ live l s g → not x ≡ false → g < l .ids
 live-small l s g x h e q = let p = live-parts l s g (sym e ∙ not-false x q) in omega (arith, p .1, h .nameable)
+
+-- and its vCPU's word is one
+pub word-small : (l : Layout) (s : List ℕ) (g v : ℕ) (x : Bool) → Sound l → x ≡ live l s g → not x ≡ false → v < 2048
+    → (l .ids + g) * 2048 + v < 2 ^ 16
+word-small l s g v x h e q k =
+    omega (arith, live-small l s g x h e q, sym (h .digits) ∙ ap (λ (n : ℕ). 2 ^ n) (h .two-bytes))
 
 pub free-is : (l : Layout) (s : List ℕ) (r : ℕ) → r ≡ slotHolding l s 0 → r ≡ freeSlot l s
 unfolding freeSlot

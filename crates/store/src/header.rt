@@ -2,11 +2,14 @@
 use super::Layout;
 use octets::get16;
 use octets::get64;
+use octets::pair;
+use octets::swap16;
 use octets::wide;
 ghost use mathlib.Core.Path.{_≡_};
 ghost use mathlib.Core.Bool.{cond};
-ghost use Prim.Native.Nat.{_+_, _≤_, _<_, _*_};
+ghost use Prim.Native.Nat.{_+_, _≤_, _<_, _*_, _^_};
 ghost use lib.ListN.{length};
+ghost use Rattle.octets.specs.Private.{swap2};
 ghost use Rattle.store.specs.Layout.{Sound};
 ghost use Rattle.store.specs.Private.{timesOf, slotCounted};
 ghost use Rattle.store.specs.Header.{header, capabilitiesOf, live, word, holds, headGood, wordsGood, slotHolding, slotOf, freeSlot, freeGuest};
@@ -37,16 +40,25 @@ pub fn is_live(s: &[u8], l: Layout, g: usize) -> bool
         return false;
     }
     let i = g - 1;
-    (wide(s[8 + i / 8]) >> (7 - i % 8)) % 2 == 1
+    (wide(s[8 + i / 8]) << (i % 8)) / 128 % 2 == 1
+}
+
+// p is w swapped: each word is then compared as it lies in the store.
+fn holds_word(s: &[u8], l: Layout, i: usize, w: usize, p: u16) -> bool
+    requires { ⌜ Sound l × (length (now s) ≡ l .size) × (i < l .slots) × (w < 2 ^ 16) × (p ≡ swap2 w) ⌝ }
+    ensures { λ r. ⌜ r ≡ holds l (header l (now (s .entry))) w i ⌝ }
+{
+    pair(s, l.words_at + 2 * i) == p
 }
 
 fn slot_holding(s: &[u8], l: Layout, w: usize) -> usize
-    requires { ⌜ Sound l × (length (now s) ≡ l .size) ⌝ }
+    requires { ⌜ Sound l × (length (now s) ≡ l .size) × (w < 2 ^ 16) ⌝ }
     ensures { λ r. ⌜ (r ≡ slotHolding l (header l (now (s .entry))) w) × (r ≤ l .slots) ⌝ }
 {
+    let p = swap16(w as u16);
     let mut i = 0;
     while i < l.slots {
-        if slot_word(s, l, i) == w {
+        if holds_word(s, l, i, w, p) {
             return i;
         }
         i += 1;
@@ -122,7 +134,7 @@ fn slot_good(s: &[u8], l: Layout, a: usize) -> bool
     if w == 0 {
         return true;
     }
-    if w < l.ids * 2048 {
+    if w / 2048 < l.ids {
         return false;
     }
     if !is_live(s, l, w / 2048 - l.ids) {

@@ -19,11 +19,8 @@ shared-slice-read-wide c = search needs
 wide-requires : tie.Need-wide-requires
 wide-requires c κs = search needs
 
-sub-result : tie.Need-sub-result
-sub-result c = search needs
-
-shr-result : tie.Need-shr-result
-shr-result c = search needs
+shl-result : tie.Need-shl-result
+shl-result c = search needs
 
 returns-3 : tie.Need-returns-3
 returns-3 c = search (needs, live-read)
@@ -31,12 +28,4 @@ returns-3 c = search (needs, live-read)
 pub is-live-spec : {M : Type 1} → statement M
 is-live-spec =
     tie.close
-    (tie.spec
-    returns
-    returns-2
-    add-wide
-    shared-slice-read-wide
-    wide-requires
-    sub-result
-    shr-result
-    returns-3)
+    (tie.spec returns returns-2 add-wide shared-slice-read-wide wide-requires shl-result returns-3)

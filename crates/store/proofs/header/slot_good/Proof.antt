@@ -10,9 +10,6 @@ slot-word-requires c κs = search needs
 returns : tie.Need-returns
 returns c = search (needs, slot-zero)
 
-mul-if2 : tie.Need-mul-if2
-mul-if2 c = search needs
-
 returns-2 : tie.Need-returns-2
 returns-2 c = search (needs, slot-unused)
 
@@ -37,7 +34,6 @@ slot-good-spec =
     (tie.spec
     slot-word-requires
     returns
-    mul-if2
     returns-2
     sub-is-live
     is-live-requires

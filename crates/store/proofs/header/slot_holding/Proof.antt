@@ -1,26 +1,30 @@
 -- The invariant is the search that is left: the laws `find-..` of Loops.
+use mathlib.Core.Path.{_≡_}
+use Prim.Native.Nat.{_-_, _≤_}
+use borrow.Author.Needs.{needs}
 use Rattle.store.specs.Search.{first}
 use Rattle.store.specs.Header.{header, holds, slotHolding}
 use Rattle.store.proofs.Loops.{find-start, find-hit, find-miss, find-end}
-use Prim.Native.Nat.{ℕ, _+_, _-_, _*_, _≤_, _<_, _^_, _/_, _%_}
-use lib.ListN.{length}
-use mathlib.Core.Path.{_≡_, refl, sym, ap, _∙_}
-use native.Mathlib.Omega.{arith}
-use borrow.Author.Needs.{needs}
 use Rattle.store.proofs.header.slot_holding.Statement.{statement}
 use Rattle.store.proofs.header.slot_holding.Tie as tie
 
 abbrev Inv-loop : tie.InvT-loop
-Inv-loop s l w i₀ i = (i ≤ l .slots) × (slotHolding l (header l s) w ≡ first (holds l (header l s) w) (l .slots - i) i)
+Inv-loop s l w p i₀ i = (i ≤ l .slots) × (slotHolding l (header l s) w ≡ first (holds l (header l s) w) (l .slots - i) i)
 
 abbrev μ-loop : tie.MeasureT-loop
-μ-loop s l w i₀ i = l .slots - i
+μ-loop s l w p i₀ i = l .slots - i
+
+cast-swap16 : tie.Need-cast-swap16 Inv-loop μ-loop
+cast-swap16 c = search needs
+
+swap16-requires : tie.Need-swap16-requires Inv-loop μ-loop
+swap16-requires c κs = search needs
 
 loop-holds : tie.Need-loop-holds Inv-loop μ-loop
 loop-holds c = (search needs, find-start _ _ _)
 
-slot-word-requires : tie.Need-slot-word-requires Inv-loop μ-loop
-slot-word-requires c κs = search needs
+holds-word-requires : tie.Need-holds-word-requires Inv-loop μ-loop
+holds-word-requires c κs = search needs
 
 returns : tie.Need-returns Inv-loop μ-loop
 returns c = (search (needs, find-hit), search needs)
@@ -43,8 +47,10 @@ slot-holding-spec =
     (tie.spec
     Inv-loop
     μ-loop
+    cast-swap16
+    swap16-requires
     loop-holds
-    slot-word-requires
+    holds-word-requires
     returns
     add-i
     loop-less

@@ -1,6 +1,6 @@
 -- Each return is a law of `slotOf`; a live guest's word fits.
 use native.Mathlib.Omega.{arith}
-use Rattle.store.proofs.Tests.{of-dead, of-high, of-found, live-small}
+use Rattle.store.proofs.Tests.{of-dead, of-high, of-found, live-small, word-small}
 use borrow.Author.Needs.{needs}
 use Rattle.store.proofs.header.slot_of.Statement.{statement}
 use Rattle.store.proofs.header.slot_of.Tie as tie
@@ -24,7 +24,7 @@ add-slot-holding-2 : tie.Need-add-slot-holding-2
 add-slot-holding-2 c = omega (arith, live-small _ _ _ _ (c .before .before .before .before .before .pre .0) (c .before .before .before .is-live .ensures) (c .before .before .if1 .left), c .before .before .before .before .before .pre .0 .few-ids)
 
 slot-holding-requires : tie.Need-slot-holding-requires
-slot-holding-requires c κs = search needs
+slot-holding-requires c κs = (search needs, search needs, search (needs, word-small))
 
 returns-3 : tie.Need-returns-3
 returns-3 c = (search (needs, of-found), search needs)

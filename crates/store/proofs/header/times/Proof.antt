@@ -1,7 +1,6 @@
 -- The invariant is the count so far: the laws `times-..` of Loops.
 use mathlib.Core.Path.{_≡_}
 use Prim.Native.Nat.{_-_, _≤_}
-use native.Mathlib.Omega.{arith}
 use borrow.Author.Needs.{needs}
 use Rattle.store.specs.Search.{tally}
 use Rattle.store.specs.Header.{header, holds}

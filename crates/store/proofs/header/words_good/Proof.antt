@@ -3,10 +3,8 @@ use Rattle.store.specs.Search.{every}
 use Rattle.store.specs.Header.{header, wordsGood}
 use Rattle.store.specs.Private.{slotCounted}
 use Rattle.store.proofs.Loops.{words-start, words-bad, words-turn, words-end}
-use Prim.Native.Nat.{ℕ, _+_, _-_, _*_, _≤_, _<_, _^_, _/_, _%_}
-use lib.ListN.{length}
-use mathlib.Core.Path.{_≡_, refl, sym, ap, _∙_}
-use native.Mathlib.Omega.{arith}
+use Prim.Native.Nat.{_-_, _≤_}
+use mathlib.Core.Path.{_≡_}
 use borrow.Author.Needs.{needs}
 use Rattle.store.proofs.header.words_good.Statement.{statement}
 use Rattle.store.proofs.header.words_good.Tie as tie
