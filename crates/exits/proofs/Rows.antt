@@ -33,6 +33,10 @@ long = refl
 pub row-coded : (i : ℕ) → i < 7 → getD rows i [] ≡ codes (exitAt i)
 row-coded i h = coded exits i (subst (λ (n : ℕ). i < n) (sym long) h)
 
+-- row k, where i turns out to be k
+pub row-known : (k i : ℕ) → k < 7 → i ≡ k → getD rows k [] ≡ codes (exitAt i)
+row-known k i h e = row-coded k h ∙ ap (λ (n : ℕ). codes (exitAt n)) (sym e)
+
 -- ---- which row an exit has
 ltb-suc : (a b : ℕ) → ltb (suc a) (suc b) ≡ ltb a b
 ltb-suc a b = go (ltb a b) refl

@@ -2,7 +2,7 @@
 use mathlib.Core.Path.{_≡_, refl, sym, ap, ap₂, _∙_, subst}
 use mathlib.Core.Bool.{Bool, true, false, _&&_, cond}
 use mathlib.Core.List.{List, [], _∷_, _++_}
-use Prim.Native.Nat.{ℕ, zero, suc, _+_, _-_, _≤_, _<_, _^_}
+use Prim.Native.Nat.{ℕ, zero, suc, _+_, _-_, _*_, _≤_, _<_, _^_}
 use native.Mathlib.Nat.{not-suc-le-zero, le-of-suc-le-suc}
 use native.Mathlib.Numerals.{add-one}
 use native.Mathlib.Omega.{arith}
@@ -14,7 +14,10 @@ use Rattle.octets.specs.Bytes.{bytesAt, put, digits, zeros}
 use Rattle.octets.proofs.Bytes.{length-bytesAt}
 use Rattle.elements.specs.declared.Element.{Element}
 use Rattle.elements.specs.Table.{table, below, position, numberOf, numbered, threadElement}
+use Rattle.elements.specs.Rules.{between}
+use Rattle.elements.proofs.Find.{inside}
 use Rattle.gsb.specs.Message.{elementBytes, elementsBytes}
+use Rattle.gsb.proofs.Quick.{between-low, between-high}
 use Rattle.gsb.proofs.Messages.{length-more, elements-none, elements-more}
 use Rattle.exits.specs.Exits.{exits, elementOf, weigh, rowBytes, valued}
 use Rattle.exits.specs.Private.{exitAt, codes}
@@ -246,3 +249,36 @@ module _ (id n : ℕ) (x : Element) (e : n ≡ numberOf id) (q : x ≡ threadEle
 
   pub thread-put : (base at : ℕ) (s b y : List ℕ) → y ≡ put b at (elementBytes id (bytesAt s (base + x .position) (x .size))) → y ≡ put b at (elementBytes id (bytesAt s (base + elementOf id .position) (elementOf id .size)))
   thread-put base at s b y h = h ∙ ap (λ (z : Element). put b at (elementBytes id (bytesAt s (base + z .position) (z .size)))) thread-is
+
+-- ---- a register of 8 bytes, by the range that its ID is in
+register-is : (id : ℕ) → 0x1000 ≤ id → id < 0x1054 → record { id = id; size = 8; position = 40 + 8 * (id - 0x1000) } ≡ elementOf id
+unfolding threadElement numbered numberOf position below table
+register-is id low high =
+    inside elementOf (λ (i : ℕ). record { id = i; size = 8; position = 40 + 8 * (i - 0x1000) }) 0x1000 84 refl id low high
+
+module _ (id : ℕ) (r : Bool) (w : r ≡ between 0x1000 0x1053 id) (t : r ≡ true) where
+  register : record { id = id; size = 8; position = 40 + 8 * (id - 0x1000) } ≡ elementOf id
+  register =
+      let high : id ≤ 0x1053 = between-high _ _ _ (sym w ∙ t) in
+      register-is id (between-low _ _ _ (sym w ∙ t)) (omega arith)
+
+  register-size : 8 ≡ elementOf id .size
+  register-size = ap (λ (y : Element). y .size) register
+
+  register-place : 40 + 8 * (id - 0x1000) ≡ elementOf id .position
+  register-place = ap (λ (y : Element). y .position) register
+
+  pub register-low : 0x1000 ≤ id
+  register-low = between-low _ _ _ (sym w ∙ t)
+
+  pub register-room : (at olen : ℕ) → at + 4 + elementOf id .size ≤ olen → at + 4 + 8 ≤ olen
+  register-room at olen h = omega (arith, register-size)
+
+  pub register-inside : (base slen : ℕ) → base + elementOf id .position + elementOf id .size ≤ slen → base + (40 + 8 * (id - 0x1000)) + 8 ≤ slen
+  register-inside base slen h = omega (arith, register-size, register-place)
+
+  pub register-next : (at x : ℕ) → x ≡ at + 4 + 8 → x ≡ at + 4 + elementOf id .size
+  register-next at x h = omega (arith, h, register-size)
+
+  pub register-put : (base at : ℕ) (s b y : List ℕ) → y ≡ put b at (elementBytes id (bytesAt s (base + (40 + 8 * (id - 0x1000))) 8)) → y ≡ put b at (elementBytes id (bytesAt s (base + elementOf id .position) (elementOf id .size)))
+  register-put base at s b y h = h ∙ ap (λ (z : Element). put b at (elementBytes id (bytesAt s (base + z .position) (z .size)))) register

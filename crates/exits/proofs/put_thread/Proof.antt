@@ -1,8 +1,32 @@
--- By the element that the number names (`thread-..`).
-use Rattle.exits.proofs.Written.{thread-fits, thread-room, thread-inside, thread-small, thread-next, thread-put}
+-- A register by its range (`register-..`), the rest by the element that the number names (`thread-..`).
 use borrow.Author.Needs.{needs}
+use Rattle.exits.proofs.Written.{register-low, register-room, register-inside, register-next, register-put, thread-fits, thread-room, thread-inside, thread-small, thread-next, thread-put}
 use Rattle.exits.proofs.put_thread.Statement.{statement}
 use Rattle.exits.proofs.put_thread.Tie as tie
+
+within-requires : tie.Need-within-requires
+within-requires c κs = search needs
+
+sub-put-element : tie.Need-sub-put-element
+sub-put-element c = search (needs, register-low)
+
+mul-put-element : tie.Need-mul-put-element
+mul-put-element c = search needs
+
+add-put-element : tie.Need-add-put-element
+add-put-element c = search needs
+
+add-put-element-2 : tie.Need-add-put-element-2
+add-put-element-2 c = search needs
+
+put-element-requires : tie.Need-put-element-requires
+put-element-requires c κs = (search (needs, register-room), search (needs, register-inside), search needs)
+
+same-length : tie.Need-same-length
+same-length c = search needs
+
+returns : tie.Need-returns
+returns c = (search (needs, register-next), search (needs, register-put))
 
 number-of-requires : tie.Need-number-of-requires
 number-of-requires c κs = search needs
@@ -10,25 +34,33 @@ number-of-requires c κs = search needs
 thread-element-requires : tie.Need-thread-element-requires
 thread-element-requires c κs = search needs
 
-add-put-element : tie.Need-add-put-element
-add-put-element c = search (needs, thread-fits)
+add-put-element-3 : tie.Need-add-put-element-3
+add-put-element-3 c = search (needs, thread-fits)
 
-put-element-requires : tie.Need-put-element-requires
-put-element-requires c κs = (search (needs, thread-room), search (needs, thread-inside), search (needs, thread-small))
+put-element-requires-2 : tie.Need-put-element-requires-2
+put-element-requires-2 c κs = (search (needs, thread-room), search (needs, thread-inside), search (needs, thread-small))
 
-same-length : tie.Need-same-length
-same-length c = search needs
+same-length-2 : tie.Need-same-length-2
+same-length-2 c = search needs
 
-returns : tie.Need-returns
-returns c = (search (needs, thread-next), search (needs, thread-put))
+returns-2 : tie.Need-returns-2
+returns-2 c = (search (needs, thread-next), search (needs, thread-put))
 
 pub put-thread-spec : {M : Type 1} → statement M
 put-thread-spec =
     tie.close
     (tie.spec
-    number-of-requires
-    thread-element-requires
+    within-requires
+    sub-put-element
+    mul-put-element
     add-put-element
+    add-put-element-2
     put-element-requires
     same-length
-    returns)
+    returns
+    number-of-requires
+    thread-element-requires
+    add-put-element-3
+    put-element-requires-2
+    same-length-2
+    returns-2)
