@@ -6,7 +6,7 @@ use Rattle.answer.specs.declared.Call.the-variants.{RunVcpu, Lookup}
 use Rattle.answer.specs.declared.Registers.{Registers}
 use Rattle.answer.specs.Answer.{told}
 use Rattle.gsb.specs.declared.Found.{Found as Looked}
-use Rattle.l0.specs.Refusals.{Outcome}
+use Rattle.admission.specs.Refusals.{Outcome}
 use Rattle.adderknot.specs.declared.Found.{Found}
 
 pub record Left : Type 0 where

@@ -8,8 +8,8 @@ ghost use Rattle.answer.specs.declared.Call.{Call};
 ghost use Rattle.answer.specs.Answer.{told};
 ghost use Rattle.store.specs.Layout.{small};
 ghost use Rattle.gsb.specs.Lookup.{lookedUp};
-ghost use Rattle.l0.specs.State.{getState, setState};
-ghost use Rattle.l0.specs.Run.{runVcpu};
+ghost use Rattle.state.specs.State.{getState, setState};
+ghost use Rattle.run.specs.Run.{runVcpu};
 ghost use Rattle.l0.specs.Calls.{freshStore, getCapabilities, setCapabilities, createGuest, createVcpu, deleteGuest, guestClock};
 ghost use Rattle.adderknot.specs.Entries.{Left, leaves, Filled, fills, Ran, runs, tells, foundAt};
 
@@ -63,7 +63,7 @@ pub extern "C" fn adk_get_state(
 {
     registers_of(
         Call::GetState,
-        l0::get_state(store, flags, guest, vcpu, buffer),
+        state::get_state(store, flags, guest, vcpu, buffer),
     )
 }
 
@@ -79,7 +79,7 @@ pub extern "C" fn adk_set_state(
 {
     registers_of(
         Call::SetState,
-        l0::set_state(store, flags, guest, vcpu, buffer),
+        state::set_state(store, flags, guest, vcpu, buffer),
     )
 }
 
@@ -98,7 +98,7 @@ pub extern "C" fn adk_run_vcpu(
 {
     registers_of(
         Call::RunVcpu,
-        l0::run_vcpu(
+        run::run_vcpu(
             store,
             flags,
             guest,

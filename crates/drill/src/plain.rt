@@ -49,7 +49,7 @@ pub fn write(store: &mut [u8], id: u16, value: &[u8], room: &mut [u8], digest: u
     one_element(b, id, value);
     mix_registers(
         digest,
-        registers_of(Call::SetState, l0::set_state(store, 0, 1, 0, b)),
+        registers_of(Call::SetState, state::set_state(store, 0, 1, 0, b)),
     )
 }
 
@@ -60,7 +60,7 @@ fn get(store: &[u8], id: u16, value: &mut [u8], room: &mut [u8]) -> Registers
     let n = value.len();
     let b = &mut room[0..8 + n];
     one_element(b, id, value);
-    let told = registers_of(Call::GetState, l0::get_state(store, 0, 1, 0, b));
+    let told = registers_of(Call::GetState, state::get_state(store, 0, 1, 0, b));
     copy(b, 8, value, 0, n);
     told
 }
@@ -86,7 +86,7 @@ pub fn run(
 ) -> u64 {
     let told = registers_of(
         Call::RunVcpu,
-        l0::run_vcpu(store, 0, 1, 0, blank, output, effect, exit),
+        run::run_vcpu(store, 0, 1, 0, blank, output, effect, exit),
     );
     let seen = mix_bytes(mix_registers(digest, told), output);
     if told.r3 != 0 {
@@ -99,6 +99,6 @@ pub fn run(
 pub fn other(store: &mut [u8], buffer: &[u8], digest: u64) -> u64 {
     mix_registers(
         digest,
-        registers_of(Call::SetState, l0::set_state(store, 0, 2, 0, buffer)),
+        registers_of(Call::SetState, state::set_state(store, 0, 2, 0, buffer)),
     )
 }

@@ -2,7 +2,6 @@
 use gsb::put_element;
 use octets::put32;
 use octets::put64;
-ghost use Prim.Native.Nat.{_≤_};
 ghost use mathlib.Core.Path.{_≡_};
 ghost use lib.ListN.{length};
 
@@ -28,5 +27,5 @@ pub fn start(store: &mut [u8]) {
     let mut buffer = [0u8; 44];
     let b: &mut [u8] = &mut buffer;
     registrations(b);
-    l0::set_state(store, 0, 1, 0, b);
+    state::set_state(store, 0, 1, 0, b);
 }

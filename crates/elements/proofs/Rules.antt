@@ -5,7 +5,8 @@ use mathlib.Core.Bool.{Bool, true, false, not, _&&_, _||_, false≢true}
 use mathlib.Core.List.{List}
 use Prim.Native.Nat.{ℕ, _≤_, _<_}
 use native.Mathlib.Omega.{arith}
-use borrow.Author.Tests.{lt-leb, ne-eqb, eqb-true, not-true}
+use lib.Dec.{leb}
+use borrow.Author.Tests.{leb-true, lt-leb, ne-eqb, eqb-true, not-true}
 use Rattle.elements.specs.declared.Access.the-variants.{ReadWrite}
 use Rattle.elements.specs.declared.Entry.{Entry}
 use Rattle.elements.specs.declared.Source.the-variants.{Stored}
@@ -28,6 +29,22 @@ or-false false = refl
 pub or-true : (t : Bool) → t || true ≡ true
 or-true true = refl
 or-true false = refl
+
+-- ---- a range
+
+pub and-left : (t u : Bool) → t && u ≡ true → t ≡ true
+and-left true u e = refl
+and-left false u e = e
+
+pub and-right : (t u : Bool) → t && u ≡ true → u ≡ true
+and-right true u e = e
+and-right false u e = absurd (false≢true e)
+
+pub between-low : (low high n : ℕ) → between low high n ≡ true → low ≤ n
+between-low low high n e = leb-true low n (and-left (leb low n) (leb n high) e)
+
+pub between-high : (low high n : ℕ) → between low high n ≡ true → n ≤ high
+between-high low high n e = leb-true n high (and-right (leb low n) (leb n high) e)
 
 -- ---- the size
 
@@ -68,14 +85,6 @@ unfolding goodValue
 value-set k id b at e = rw e
 
 -- ---- what is permitted
-
-and-left : (t u : Bool) → t && u ≡ true → t ≡ true
-and-left true u e = refl
-and-left false u e = e
-
-and-right : (t u : Bool) → t && u ≡ true → u ≡ true
-and-right true u e = e
-and-right false u e = absurd (false≢true e)
 
 -- the NOP, or a listed element that the use allows
 pub permits-cases : (k : Context) (id : ℕ) (kind : Kind) → permits k id kind ≡ true

@@ -1,4 +1,4 @@
--- What a call may do with an element.
+-- 01, "The guest state buffer": what a call may do with an element.
 use Prim.Native.Nat.{ℕ, _+_, _-_, _/_, _%_, _^_}
 use mathlib.Core.Bool.{Bool, true, false, cond, not, _&&_, _||_}
 use mathlib.Core.List.{List}
@@ -15,10 +15,11 @@ use Rattle.elements.specs.declared.Usage.the-variants.{GuestGet, GuestSe
 use Rattle.elements.specs.declared.Context.{Context}
 use Rattle.elements.specs.Table.{sameScope}
 
+-- from low to high, both included
 abbrev pub between : ℕ → ℕ → ℕ → Bool
 between low high n = leb low n && leb n high
 
--- 01, "The guest state buffer": "Get needs R or RW, set needs W or RW."
+-- "Get needs R or RW, set needs W or RW."
 abbrev pub readable : Access → Bool
 readable Read = true
 readable Write = false
@@ -29,7 +30,8 @@ writable Read = false
 writable Write = true
 writable ReadWrite = true
 
--- "A run input takes what a thread set takes, except 0x0C00 and 0x0C01. An effect takes any listed thread element except 0x0C00 to 0x0C02."
+-- "A run input takes what a thread set takes, except 0x0C00 and 0x0C01, answered 6 (house). An effect takes the NOP and any listed
+-- thread element of the right size except 0x0C00 to 0x0C02."
 unfoldable pub allows : Usage → ℕ → Entry → Bool
 allows GuestGet id x = sameScope Guest (x .scope) && readable (x .access)
 allows GuestSet id x = sameScope Guest (x .scope) && writable (x .access)
@@ -44,6 +46,7 @@ permits k id Unlisted = false
 permits k id Nop = true
 permits k id (Listed x) = allows (k .usage) id x
 
+-- "then the size, 7 if not the listed one"; a NOP has any
 unfoldable pub sizeFits : Kind → ℕ → Bool
 sizeFits Unlisted n = false
 sizeFits Nop n = true
@@ -56,7 +59,7 @@ goodInput n = between 4 65536 n
 abbrev pub goodOutput : ℕ → Bool
 goodOutput n = between 124 65536 n
 
--- 01, "Answers": bits are numbered as in Power, bit 0 is the most significant of 64.
+-- 01, "Answers": "bit 0 is the most significant of 64"
 abbrev pub agreed : ℕ → ℕ → Bool
 agreed capabilities b = eqb (capabilities / 2 ^ (63 - b) % 2) 1
 
@@ -64,14 +67,14 @@ agreed capabilities b = eqb (capabilities / 2 ^ (63 - b) % 2) 1
 unfoldable pub goodPvr : ℕ → ℕ → Bool
 goodPvr capabilities v = (eqb v 0x0F000005 && agreed capabilities 1) || (eqb v 0x0F000006 && agreed capabilities 2)
 
--- The value rules, of the value that starts at `at`: they hold when setting, and get has none.
--- "Any other value of any element is good."
+-- "Value rules (house)", of the value that starts at `at`: "Any other value of any element is good."
 unfoldable pub ruleOf : ℕ → ℕ → List ℕ → ℕ → Bool
 ruleOf capabilities id b at =
     cond (eqb id 0x0003) (goodPvr capabilities (be b at 4))
     (cond (eqb id 0x0C00) (goodInput (be b (at + 8) 8))
     (cond (eqb id 0x0C01) (goodOutput (be b (at + 8) 8)) true))
 
+-- "when setting, the value rule": get has none
 abbrev pub isSetting : Usage → Bool
 isSetting GuestGet = false
 isSetting GuestSet = true

@@ -1,4 +1,4 @@
--- The elements that a guest state buffer can hold, and what the table says of an ID.
+-- 000, "Guest State Buffer", and 01, the same: the elements that a buffer can hold, and what the table says of an ID.
 use Prim.Native.Nat.{ℕ, suc, _+_, _-_, _*_, min}
 use mathlib.Core.Bool.{Bool, true, false, cond, _&&_}
 use mathlib.Core.List.{List, [], _∷_}

@@ -1,6 +1,6 @@
 -- A row's elements written one behind the other: the one computed test that they fit, and the laws of the loop. Assumes nothing.
-use mathlib.Core.Path.{_≡_, refl, sym, ap, ap₂, _∙_, subst}
-use mathlib.Core.Bool.{Bool, true, false, _&&_, cond}
+use mathlib.Core.Path.{_≡_, refl, sym, ap, _∙_, subst}
+use mathlib.Core.Bool.{Bool, true, false, _&&_}
 use mathlib.Core.List.{List, [], _∷_, _++_}
 use Prim.Native.Nat.{ℕ, zero, suc, _+_, _-_, _*_, _≤_, _<_, _^_}
 use native.Mathlib.Nat.{not-suc-le-zero, le-of-suc-le-suc}
@@ -10,14 +10,14 @@ use lib.Dec.{ltb, leb}
 use lib.ListN.{length, getD, take, List·getD-append}
 use lib.Seq.{take-suc, take-all}
 use borrow.Author.Tests.{leb-true, ltb-true}
-use Rattle.octets.specs.Bytes.{bytesAt, put, digits, zeros}
+use Rattle.octets.specs.Bytes.{bytesAt, put, zeros}
 use Rattle.octets.proofs.Bytes.{length-bytesAt}
 use Rattle.elements.specs.declared.Element.{Element}
 use Rattle.elements.specs.Table.{table, below, position, numberOf, numbered, threadElement}
 use Rattle.elements.specs.Rules.{between}
 use Rattle.elements.proofs.Find.{inside}
 use Rattle.gsb.specs.Message.{elementBytes, elementsBytes}
-use Rattle.gsb.proofs.Quick.{between-low, between-high}
+use Rattle.elements.proofs.Rules.{between-low, between-high}
 use Rattle.gsb.proofs.Messages.{length-more, elements-none, elements-more}
 use Rattle.exits.specs.Exits.{exits, elementOf, weigh, rowBytes, valued}
 use Rattle.exits.specs.Private.{exitAt, codes}
@@ -259,8 +259,8 @@ register-is id low high =
 module _ (id : ℕ) (r : Bool) (w : r ≡ between 0x1000 0x1053 id) (t : r ≡ true) where
   register : record { id = id; size = 8; position = 40 + 8 * (id - 0x1000) } ≡ elementOf id
   register =
-      let high : id ≤ 0x1053 = between-high _ _ _ (sym w ∙ t) in
-      register-is id (between-low _ _ _ (sym w ∙ t)) (omega arith)
+      let high : id ≤ 0x1053 = between-high 0x1000 0x1053 id (sym w ∙ t) in
+      register-is id (between-low 0x1000 0x1053 id (sym w ∙ t)) (omega arith)
 
   register-size : 8 ≡ elementOf id .size
   register-size = ap (λ (y : Element). y .size) register
@@ -269,7 +269,7 @@ module _ (id : ℕ) (r : Bool) (w : r ≡ between 0x1000 0x1053 id) (t : r ≡ t
   register-place = ap (λ (y : Element). y .position) register
 
   pub register-low : 0x1000 ≤ id
-  register-low = between-low _ _ _ (sym w ∙ t)
+  register-low = between-low 0x1000 0x1053 id (sym w ∙ t)
 
   pub register-room : (at olen : ℕ) → at + 4 + elementOf id .size ≤ olen → at + 4 + 8 ≤ olen
   register-room at olen h = omega (arith, register-size)

@@ -1,6 +1,6 @@
 -- THEOREM `refused-exactly`, for every context: the walk refuses exactly if a counted element is bad, and the place that it tells is
 -- the first one's index and offset. Assumes nothing.
-use mathlib.Core.Path.{_≡_, refl, sym, ap, ap₂, _∙_, subst}
+use mathlib.Core.Path.{_≡_, refl, sym, ap, _∙_, subst}
 use mathlib.Core.Logic.{_↔_}
 use mathlib.Core.List.{List}
 use Prim.Native.Nat.{ℕ, zero, suc, _+_, _-_, _≤_, _<_}
@@ -12,9 +12,8 @@ use Rattle.answer.specs.declared.Place.{Place}
 use Rattle.elements.specs.declared.Context.{Context}
 use Rattle.gsb.specs.declared.Verdict.{Verdict}
 use Rattle.gsb.specs.declared.Verdict.the-variants.{Good, Faulty}
-use Rattle.gsb.specs.declared.Walked.{Walked}
 use Rattle.gsb.specs.declared.Walked.the-variants.{Done, Stopped}
-use Rattle.gsb.specs.Walk.{countOf, nextAt, offsetAt, judged, after, walk, firstBad}
+use Rattle.gsb.specs.Walk.{countOf, offsetAt, judged, after, walk, firstBad}
 use Rattle.gsb.proofs.Judged.{good-element}
 use Rattle.gsb.proofs.Walks.{walk-end, walk-good, walk-bad, after-good, after-bad, offset-start, offset-next, first-start}
 

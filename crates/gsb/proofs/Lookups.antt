@@ -1,13 +1,13 @@
 -- The laws of the lookup: nothing else opens `framed`, `lastWith`, `partOf` and `lookedUp`. Assumes nothing.
 use mathlib.Core.Path.{_≡_, refl, sym, ap, _∙_, subst}
 use mathlib.Core.Bool.{Bool, true, false, cond, _||_, true≢false}
-use mathlib.Core.List.{List, [], _∷_}
-use Prim.Native.Nat.{ℕ, suc, _+_, _-_, _*_, _^_, _≤_, _<_}
+use mathlib.Core.List.{List}
+use Prim.Native.Nat.{ℕ, _+_, _-_, _*_, _^_, _≤_, _<_}
 use native.Mathlib.Numerals.{add-one}
 use native.Mathlib.Omega.{arith}
 use lib.Dec.{ltb, eqb}
 use lib.ListN.{length, take, drop}
-use borrow.Author.Tests.{lt-ltb, le-ltb, ltb-false, eq-eqb, ne-eqb}
+use borrow.Author.Tests.{lt-ltb, le-ltb, ltb-false}
 use Rattle.octets.specs.Bytes.{bytesAt}
 use Rattle.octets.proofs.Bytes.{part-lent}
 use Rattle.answer.specs.declared.Bad.{Bad}
@@ -18,14 +18,13 @@ use Rattle.elements.specs.Rules.{between}
 use Rattle.gsb.specs.declared.Verdict.{Verdict}
 use Rattle.gsb.specs.declared.Verdict.the-variants.{Good, Faulty}
 use Rattle.gsb.specs.declared.Walked.{Walked}
-use Rattle.gsb.specs.declared.Walked.the-variants.{Done, Stopped}
 use Rattle.gsb.specs.declared.Last.{Last}
 use Rattle.gsb.specs.declared.Last.the-variants.{Nowhere, At}
 use Rattle.gsb.specs.declared.Found.{Found}
 use Rattle.gsb.specs.Walk.{countOf, idAt, sizeAt, nextAt, offsetAt, badLength, walk}
 use Rattle.gsb.specs.Lookup.{framed, lastWith, Inside, notFound, partOf, unlessCut, lookedUp, valueOf}
 use Rattle.gsb.proofs.Judged.{passed}
-use Rattle.gsb.proofs.Quick.{between-low, between-high}
+use Rattle.elements.proofs.Rules.{between-low, between-high}
 use Rattle.gsb.proofs.Walks.{walk-end, walk-bad}
 
 -- ---- an element's frame
@@ -55,15 +54,15 @@ module _ (b : List ℕ) (at : ℕ) where
       (k : key ≡ sizeAt b at * 2 ^ 16 + idAt b at) (i : idAt b at < 2 ^ 16) where
     pub framed-eight : r ≡ between 0x80000 0x8FFFF key → r ≡ true → Good (at + 12) ≡ framed b at
     framed-eight p q =
-        let low : 0x80000 ≤ key = between-low _ _ _ (sym p ∙ q) in
-        let high : key ≤ 0x8FFFF = between-high _ _ _ (sym p ∙ q) in
+        let low : 0x80000 ≤ key = between-low 0x80000 0x8FFFF key (sym p ∙ q) in
+        let high : key ≤ 0x8FFFF = between-high 0x80000 0x8FFFF key (sym p ∙ q) in
         let n : at + 12 ≡ at + 4 + size = omega arith in
         ap Good n ∙ framed-good size room e l
 
     pub framed-sixteen : r ≡ between 0x100000 0x10FFFF key → r ≡ true → Good (at + 20) ≡ framed b at
     framed-sixteen p q =
-        let low : 0x100000 ≤ key = between-low _ _ _ (sym p ∙ q) in
-        let high : key ≤ 0x10FFFF = between-high _ _ _ (sym p ∙ q) in
+        let low : 0x100000 ≤ key = between-low 0x100000 0x10FFFF key (sym p ∙ q) in
+        let high : key ≤ 0x10FFFF = between-high 0x100000 0x10FFFF key (sym p ∙ q) in
         let n : at + 20 ≡ at + 4 + size = omega arith in
         ap Good n ∙ framed-good size room e l
 

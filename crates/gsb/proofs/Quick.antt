@@ -13,26 +13,12 @@ use Rattle.elements.specs.Table.{kindOf}
 use Rattle.elements.specs.Rules.{between, sizeFits}
 use Rattle.elements.specs.Private.{threadKind, ofThread}
 use Rattle.elements.proofs.Find.{kind-register, kind-word, kind-vector}
-use Rattle.elements.proofs.Rules.{permits-register, value-register}
+use Rattle.elements.proofs.Rules.{and-left, and-right, between-low, between-high, permits-register, value-register}
 use Rattle.gsb.specs.declared.Verdict.{Verdict}
 use Rattle.gsb.specs.declared.Verdict.the-variants.{Good}
 use Rattle.gsb.specs.Walk.{idAt, sizeAt, judged}
 use Rattle.gsb.specs.Private.{Hasty}
 use Rattle.gsb.proofs.Judged.{judged-good, empty-good}
-
-and-left : (t u : Bool) → t && u ≡ true → t ≡ true
-and-left true u e = refl
-and-left false u e = e
-
-and-right : (t u : Bool) → t && u ≡ true → u ≡ true
-and-right true u e = e
-and-right false u e = absurd (false≢true e)
-
-pub between-low : (low high n : ℕ) → between low high n ≡ true → low ≤ n
-between-low low high n e = leb-true low n (and-left (leb low n) (leb n high) e)
-
-pub between-high : (low high n : ℕ) → between low high n ≡ true → n ≤ high
-between-high low high n e = leb-true n high (and-right (leb low n) (leb n high) e)
 
 -- a listed element of a slot, in a use of a vCPU
 module _ (k : Context) (b : List ℕ) (at : ℕ) (t : true ≡ ofThread (k .usage)) (low : 0x1000 ≤ idAt b at) where
@@ -70,20 +56,20 @@ module _ (b : List ℕ) (at key : ℕ) (thread : Bool) (room : 12 ≤ length b -
   pub quick-low : (r : Bool) → r ≡ between 0x81000 0x81039 key → r ≡ true → Hasty (Good (at + 12)) thread b at
   quick-low r p q =
       let f : between 0x81000 0x81039 key ≡ true = sym p ∙ q in
-      double 0x81000 0x81039 (omega arith) (omega arith) (λ n x y z. omega arith) (between-low _ _ _ f) (between-high _ _ _ f)
+      double 0x81000 0x81039 (omega arith) (omega arith) (λ n x y z. omega arith) (between-low 0x81000 0x81039 key f) (between-high 0x81000 0x81039 key f)
 
   pub quick-high : (r : Bool) → r ≡ between 0x8103B 0x81053 key → r ≡ true → Hasty (Good (at + 12)) thread b at
   quick-high r p q =
       let f : between 0x8103B 0x81053 key ≡ true = sym p ∙ q in
-      double 0x8103B 0x81053 (omega arith) (omega arith) (λ n x y z. omega arith) (between-low _ _ _ f) (between-high _ _ _ f)
+      double 0x8103B 0x81053 (omega arith) (omega arith) (λ n x y z. omega arith) (between-low 0x8103B 0x81053 key f) (between-high 0x8103B 0x81053 key f)
 
   pub quick-vector : (r : Bool) → r ≡ between 0x103000 0x10303F key → r && leb 20 (length b - at) ≡ true → Hasty (Good (at + 20)) thread b at
   unfolding sizeFits
   quick-vector r p q k u =
       let f : between 0x103000 0x10303F key ≡ true = sym p ∙ and-left r _ q in
       let long : 20 ≤ length b - at = leb-true _ _ (and-right r _ q) in
-      let low : 0x103000 ≤ key = between-low _ _ _ f in
-      let high : key ≤ 0x10303F = between-high _ _ _ f in
+      let low : 0x103000 ≤ key = between-low 0x103000 0x10303F key f in
+      let high : key ≤ 0x10303F = between-high 0x103000 0x10303F key f in
       let s : 16 ≡ sizeAt b at = omega arith in
       let n : at + 20 ≡ at + 4 + 16 = omega arith in
       ap Good n
@@ -94,8 +80,8 @@ module _ (b : List ℕ) (at key : ℕ) (thread : Bool) (room : 12 ≤ length b -
   unfolding sizeFits
   quick-word r p q k u =
       let f : between 0x42000 0x4200E key ≡ true = sym p ∙ q in
-      let low : 0x42000 ≤ key = between-low _ _ _ f in
-      let high : key ≤ 0x4200E = between-high _ _ _ f in
+      let low : 0x42000 ≤ key = between-low 0x42000 0x4200E key f in
+      let high : key ≤ 0x4200E = between-high 0x42000 0x4200E key f in
       let s : 4 ≡ sizeAt b at = omega arith in
       let n : at + 8 ≡ at + 4 + 4 = omega arith in
       ap Good n

@@ -5,9 +5,7 @@ use mathlib.Core.List.{List, [], _∷_}
 use lib.Dec.{ltb}
 use lib.ListN.{length}
 use Rattle.octets.specs.Bytes.{be}
-use Rattle.answer.specs.declared.Bad.{Bad}
 use Rattle.answer.specs.declared.Bad.the-variants.{Id, Size, Value}
-use Rattle.answer.specs.declared.Place.{Place}
 use Rattle.answer.specs.Refusals.{firstOf}
 use Rattle.elements.specs.declared.Context.{Context}
 use Rattle.elements.specs.Table.{kindOf}

@@ -17,7 +17,7 @@ ghost use mathlib.Core.Bool.{cond};
 ghost use Prim.Native.Nat.{_+_, _≤_, _<_};
 ghost use lib.Dec.{eqb};
 ghost use lib.ListN.{length};
-ghost use Rattle.gsb.specs.Walk.{idAt, sizeAt, countOf};
+ghost use Rattle.gsb.specs.Walk.{idAt};
 ghost use Rattle.gsb.specs.Lookup.{framed, notFound, Inside, partOf, lookedUp, valueOf};
 
 // The sizes of nearly all elements are told by the number above them, so that the next element does not wait for this one's.

@@ -1,12 +1,12 @@
 -- The answers of the calls, in the form of their needs: each takes a call's refusals apart as far as the code came. Assumes nothing.
-use mathlib.Core.Path.{_≡_, refl, sym, ap, ap₂, _∙_, subst}
+use mathlib.Core.Path.{_≡_, refl, sym, ap, ap₂, _∙_}
 use mathlib.Core.Bool.{Bool, true, false, not, _&&_, cond}
 use mathlib.Core.List.{List, []}
-use Prim.Native.Nat.{ℕ, _+_, _-_, _*_, _/_, _%_, _^_, _≤_, _<_}
+use Prim.Native.Nat.{ℕ, _+_, _-_, _/_, _%_, _^_, _≤_, _<_}
 use native.Mathlib.Omega.{arith}
 use lib.Dec.{eqb, ltb}
 use lib.ListN.{length}
-use borrow.Author.Tests.{eq-eqb, ne-eqb, lt-ltb, le-ltb, not-true, not-false}
+use borrow.Author.Tests.{eq-eqb, ne-eqb, lt-ltb, le-ltb}
 use Rattle.octets.specs.Bytes.{be, put, zeros}
 use Rattle.octets.proofs.Bytes.{length-zeros, put-all}
 use Rattle.answer.specs.declared.Answer.{Answer}
@@ -18,11 +18,11 @@ use Rattle.store.specs.declared.Layout.{Layout}
 use Rattle.store.specs.Layout.{small, guestAt}
 use Rattle.store.specs.Header.{header, outside, offered, live, slotOf, freeSlot, freeGuest}
 use Rattle.store.specs.Store.{wellFormed, fresh, putCapabilities, withGuest, withVcpu, withoutGuest, withoutGuests}
-use Rattle.l0.specs.declared.Admission.{Admission}
-use Rattle.l0.specs.declared.Admission.the-variants.{Admitted, Refused}
-use Rattle.l0.specs.Refusals.{Outcome, success, refusal, accept, refuse, decide, admission, bit0, hasBit0}
+use Rattle.admission.specs.declared.Admission.{Admission}
+use Rattle.admission.specs.declared.Admission.the-variants.{Admitted, Refused}
+use Rattle.admission.specs.Refusals.{Outcome, success, refusal, accept, refuse, decide, admission, hasBit0}
 use Rattle.l0.specs.Calls.{freshStore, getCapabilities, setCapabilities, createGuest, createVcpu, deleteGuest, offsetOf, guestClock}
-use Rattle.l0.proofs.FirstTests.{refused, Past, past, admitted}
+use Rattle.admission.proofs.FirstTests.{refused, past, admitted}
 
 -- where 0x0004 stands in a guest's values
 tb-offset : position GuestWide 0x0004 ≡ 4

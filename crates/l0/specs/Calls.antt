@@ -1,6 +1,6 @@
--- 01: each call's refusals in the order of "When several apply", then its effect.
-use Prim.Native.Nat.{ℕ, _+_, _-_, _*_, _/_, _%_, _^_}
-use mathlib.Core.Bool.{Bool, not, _&&_, cond}
+-- 01, "Answers" and "The store": each call's refusals in the order of "When several apply", then its effect.
+use Prim.Native.Nat.{ℕ, _+_, _-_, _%_, _^_}
+use mathlib.Core.Bool.{not, _&&_, cond}
 use mathlib.Core.List.{List, [], _∷_}
 use lib.Dec.{ltb, eqb}
 use lib.ListN.{length}
@@ -12,33 +12,33 @@ use Rattle.store.specs.declared.Layout.{Layout}
 use Rattle.store.specs.Layout.{guestAt}
 use Rattle.store.specs.Header.{header, outside, offered, live, slotOf, freeSlot, freeGuest}
 use Rattle.store.specs.Store.{fresh, putCapabilities, withGuest, withVcpu, withoutGuest, withoutGuests}
-use Rattle.l0.specs.State.{getState, setState}
-use Rattle.l0.specs.Run.{runVcpu}
-use Rattle.l0.specs.Refusals.{Outcome, accept, decide, malformed, unsupported, notLive, bit0, hasBit0}
+use Rattle.state.specs.State.{getState, setState}
+use Rattle.run.specs.Run.{runVcpu}
+use Rattle.admission.specs.Refusals.{Outcome, accept, decide, malformed, unsupported, notLive, bit0, hasBit0}
 
--- 01, "The store": "A fresh store is all zeros; a buffer of another length is 1."
+-- "A fresh store is all zeros; a buffer of another length is 1."
 unfoldable pub freshStore : Layout → List ℕ → Outcome
 freshStore l s = decide s [] ((not (eqb (length s) (l .size)), Store) ∷ []) (accept 0 (fresh l))
 
--- H_GUEST_GET_CAPABILITIES: the offered bitmap
+-- H_GUEST_GET_CAPABILITIES: "others 1, 2, 3"; R4 is the offered bitmap
 unfoldable pub getCapabilities : Layout → List ℕ → ℕ → Outcome
 getCapabilities l s flags = decide s [] (malformed l s ∷ unsupported 0 flags ∷ []) (accept offered s)
 
--- H_GUEST_SET_CAPABILITIES: "Set stores the bitmap."
+-- H_GUEST_SET_CAPABILITIES: "others 1, 2, 3", where 3 is "bit not offered"; "Set stores the bitmap."
 unfoldable pub setCapabilities : Layout → List ℕ → ℕ → ℕ → Outcome
 setCapabilities l s flags bitmap =
     decide s []
     (malformed l s ∷ unsupported 0 flags ∷ (not (eqb (outside offered bitmap) 0), Capability) ∷ [])
     (accept 0 (putCapabilities s bitmap))
 
--- H_GUEST_CREATE: "create guest 1, 2, 3, 9"; "token not all ones"; the lowest free id
+-- H_GUEST_CREATE: "create guest 1, 2, 3, 9", where 3 is "token not all ones"; "the lowest free id", which R4 tells
 unfoldable pub createGuest : Layout → List ℕ → ℕ → ℕ → Outcome
 createGuest l s flags token =
     decide s []
     (malformed l s ∷ unsupported 0 flags ∷ (not (eqb token (2 ^ 64 - 1)), Token) ∷ (ltb (l .guests) (freeGuest l (header l s)), Room) ∷ [])
     (accept (freeGuest l (header l s)) (withGuest l s (freeGuest l (header l s))))
 
--- H_GUEST_CREATE_VCPU: "create vCPU 1, 2, 3, 4, 10, 9"; the lowest free slot
+-- H_GUEST_CREATE_VCPU: "create vCPU 1, 2, 3, 4, 10, 9"; the lowest free slot. The slot of a vCPU is below their number if it exists.
 unfoldable pub createVcpu : Layout → List ℕ → ℕ → ℕ → ℕ → Outcome
 createVcpu l s flags guest vcpu =
     decide s []
@@ -47,7 +47,7 @@ createVcpu l s flags guest vcpu =
     ∷ (not (ltb (freeSlot l (header l s)) (l .slots)), Room) ∷ [])
     (accept 0 (withVcpu l s (freeSlot l (header l s)) guest vcpu))
 
--- H_GUEST_DELETE: "bit 0 (all guests; the id is then ignored)"
+-- H_GUEST_DELETE: "others 1, 2, 3"; "delete bit 0 (all guests; the id is then ignored)"
 unfoldable pub deleteGuest : Layout → List ℕ → ℕ → ℕ → Outcome
 deleteGuest l s flags guest =
     decide s []

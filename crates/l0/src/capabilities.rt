@@ -1,7 +1,7 @@
 // A fresh store, and the capabilities that the L1 and this L0 agree on.
-use super::Admission;
-use super::early::admit;
-use super::early::other_bits;
+use admission::Admission;
+use admission::admit;
+use admission::other_bits;
 use answer::Answer;
 use answer::Fault;
 use answer::refusal;
@@ -12,7 +12,7 @@ use store::small_layout;
 ghost use mathlib.Core.Path.{_≡_};
 ghost use mathlib.Core.List.{[]};
 ghost use Rattle.store.specs.Layout.{small};
-ghost use Rattle.l0.specs.Refusals.{Outcome};
+ghost use Rattle.admission.specs.Refusals.{Outcome};
 ghost use Rattle.l0.specs.Calls.{freshStore, getCapabilities, setCapabilities};
 
 // Bits 1 and 2: POWER9, POWER10.

@@ -11,7 +11,7 @@ use store::well_formed;
 ghost use mathlib.Core.Path.{_≡_};
 ghost use mathlib.Core.List.{[]};
 ghost use Rattle.store.specs.Layout.{small};
-ghost use Rattle.l0.specs.Refusals.{Outcome};
+ghost use Rattle.admission.specs.Refusals.{Outcome};
 ghost use Rattle.l0.specs.Calls.{guestClock};
 
 // Where 0x0004 stands in a guest's values.

@@ -1,6 +1,6 @@
 // Guests and vCPUs created and deleted.
-use super::Admission;
-use super::early::admit;
+use admission::Admission;
+use admission::admit;
 use answer::Answer;
 use answer::Fault;
 use answer::refusal;
@@ -17,7 +17,7 @@ use store::without_guests;
 ghost use mathlib.Core.Path.{_≡_};
 ghost use mathlib.Core.List.{[]};
 ghost use Rattle.store.specs.Layout.{small};
-ghost use Rattle.l0.specs.Refusals.{Outcome};
+ghost use Rattle.admission.specs.Refusals.{Outcome};
 ghost use Rattle.l0.specs.Calls.{createGuest, createVcpu, deleteGuest};
 
 // H_GUEST_CREATE.

@@ -1,16 +1,14 @@
 -- THEOREM `cache-agrees`, demand 3 whole: for every list of cache writes, reads and runs of a live vCPU, with any calls on other guests
 -- between, the L1 with a cache and the plain L1 agree. Assumes nothing.
-use mathlib.Core.Path.{_≡_, refl, sym, ap, _∙_, subst}
+use mathlib.Core.Path.{refl, sym, ap, _∙_, subst}
 use mathlib.Core.List.{List, [], _∷_}
 use Prim.Native.Nat.{ℕ, _≤_, _<_}
-use lib.ListN.{length}
-use Rattle.octets.specs.Bytes.{zeros}
 use Rattle.elements.specs.Rules.{goodInput, goodOutput}
 use Rattle.store.specs.declared.Layout.{Layout}
 use Rattle.store.specs.Layout.{Sound, small}
 use Rattle.store.specs.Header.{header, slotOf}
 use Rattle.store.proofs.Small.{sound-small}
-use Rattle.l0.specs.Run.{inputSize, outputSize}
+use Rattle.run.specs.Run.{inputSize, outputSize}
 use Rattle.l1.specs.Cache.{Cache}
 use Rattle.l1.specs.Agree.{Op, Write, Read, Run, Other, Cached, cachedTurn, plainTurn, since, Agree, Allowed, Start}
 use Rattle.l1.proofs.Ours.{Ours, ours-base}

@@ -1,25 +1,24 @@
 -- The cache by itself: its cells after a value is kept or changed, when it is well formed, and what is pending. Assumes nothing.
-use mathlib.Core.Path.{_≡_, refl, sym, ap, ap₂, _∙_, subst}
+use mathlib.Core.Path.{_≡_, refl, sym, ap, ap₂, _∙_}
 use mathlib.Core.Logic.{_≢_}
 use mathlib.Core.Bool.{Bool, true, false, not, _&&_, _||_, cond}
 use mathlib.Core.List.{List, [], _∷_, _++_}
 use Prim.Native.Nat.{ℕ, zero, suc, _+_, _/_, _≤_, _<_}
-use native.Mathlib.Decide.{ℕ-discrete, decLt}
+use native.Mathlib.Decide.{decLt}
 use native.Mathlib.Omega.{arith}
-use lib.Dec.{eqb, ltb}
+use lib.Dec.{ltb}
 use lib.ListN.{length}
 use borrow.Author.Tests.{eq-eqb, lt-ltb, le-ltb}
-use Rattle.octets.specs.Bytes.{bytesAt, put, zeros}
+use Rattle.octets.specs.Bytes.{bytesAt, put}
 use Rattle.octets.proofs.Bytes.{length-put}
 use Rattle.elements.specs.Table.{numberOf, threadElement}
-use Rattle.store.specs.Layout.{slotBytes}
 use Rattle.store.specs.Search.{every}
-use Rattle.store.proofs.Search.{no-bool, every-all}
+use Rattle.store.proofs.Search.{every-all}
 use Rattle.exits.specs.Exits.{elementOf, valued}
-use Rattle.l1.specs.Cache.{Cache, isMarked, withMark, valid, changed, isInput, markGood, goodCache, change, keep, chosen, pending}
+use Rattle.l1.specs.Cache.{Cache, withMark, valid, changed, isInput, markGood, goodCache, change, keep, chosen, pending}
 use Rattle.l1.specs.Agree.{newest, inOrder}
 use Rattle.l1.proofs.MarkLaws.{mark-same, mark-other, length-mark, word-below}
-use Rattle.l1.proofs.Cells.{Named, named-number, number-named, number-back, named-back, valueOf, value-same, value-other}
+use Rattle.l1.proofs.Cells.{Named, named-number, valueOf, value-same, value-other}
 
 -- the value of an element, as it lies in the cache
 abbrev pub cell : Cache → ℕ → List ℕ

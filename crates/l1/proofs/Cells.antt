@@ -3,14 +3,14 @@ use mathlib.Core.Path.{_≡_, refl, sym, ap, ap₂, _∙_, subst}
 use mathlib.Core.Logic.{_≢_, _⊎_, inl, inr}
 use mathlib.Core.Bool.{Bool, true, false, not, _&&_, _||_, cond}
 use mathlib.Core.List.{List}
-use Prim.Native.Nat.{ℕ, zero, suc, _+_, _≤_, _<_, _^_}
-use native.Mathlib.Decide.{ℕ-discrete, decLt}
+use Prim.Native.Nat.{ℕ, zero, suc, _+_, _≤_, _<_}
+use native.Mathlib.Decide.{decLt}
 use native.Mathlib.Omega.{arith}
-use lib.Dec.{eqb, leb, ltb}
+use lib.Dec.{eqb, leb}
 use lib.ListN.{length}
-use borrow.Author.Tests.{eqb-true, eqb-false, leb-true, ltb-true, not-false, not-true}
+use borrow.Author.Tests.{eqb-false, leb-true, not-true}
 use Rattle.octets.specs.Bytes.{bytesAt, put}
-use Rattle.octets.proofs.Bytes.{Clear, left, right, clear-sym, length-bytesAt, length-put, read-back, read-other}
+use Rattle.octets.proofs.Bytes.{Clear, left, right, clear-sym, length-bytesAt, read-back, read-other}
 use Rattle.elements.specs.declared.Scope.the-variants.{Thread}
 use Rattle.elements.specs.declared.Usage.{Usage}
 use Rattle.elements.specs.declared.Usage.the-variants.{ThreadGet, ThreadSet, RunInput}
@@ -21,7 +21,7 @@ use Rattle.elements.specs.declared.Kind.{Kind}
 use Rattle.elements.specs.declared.Kind.the-variants.{Unlisted, Nop, Listed}
 use Rattle.elements.specs.Table.{table, below, sameScope, isStored, position, sourceOf, find, kindOf, numberOf, numbered, threadElement}
 use Rattle.elements.specs.Rules.{between, writable, permits, sizeFits, allows}
-use Rattle.elements.proofs.Table.{nop-zero, size-bound, position-end, position-apart, thread-stored, number-lt, number-element, number-ascends, Numbered, element-number}
+use Rattle.elements.proofs.Table.{nop-zero, size-bound, position-end, position-apart, thread-stored, number-lt, number-element, element-number}
 use Rattle.elements.proofs.Rules.{permits-cases, allows-scope}
 use Rattle.store.specs.Search.{every}
 use Rattle.store.proofs.Search.{no-bool, both, every-at}

@@ -1,20 +1,18 @@
 -- An effect leaves the two registrations of the vCPU. Assumes nothing.
-use mathlib.Core.Path.{_≡_, refl, sym, ap, ap₂, _∙_, subst}
+use mathlib.Core.Path.{_≡_, refl, sym, ap, _∙_, subst}
 use mathlib.Core.Bool.{Bool, true, false, not, _&&_, _||_}
 use mathlib.Core.List.{List}
-use Prim.Native.Nat.{ℕ, suc, _+_, _≤_, _<_}
+use Prim.Native.Nat.{ℕ, _+_, _≤_, _<_}
 use native.Mathlib.Omega.{arith}
-use lib.Dec.{leb, ltb, T}
-use lib.ListN.{length, getD}
+use lib.Dec.{leb, T}
 use borrow.Author.Tests.{leb-true, leb-false}
 use Rattle.octets.specs.Bytes.{be}
 use Rattle.octets.proofs.Numbers.{be-ext}
 use Rattle.elements.specs.declared.Scope.{Scope}
-use Rattle.elements.specs.declared.Scope.the-variants.{Guest, Thread}
+use Rattle.elements.specs.declared.Scope.the-variants.{Thread}
 use Rattle.elements.specs.declared.Usage.the-variants.{Effect as InEffect}
 use Rattle.elements.specs.declared.Context.{Context}
 use Rattle.elements.specs.declared.Entry.{Entry}
-use Rattle.elements.specs.declared.Kind.{Kind}
 use Rattle.elements.specs.declared.Kind.the-variants.{Listed}
 use Rattle.elements.specs.Table.{table, below, sameScope, position, sourceOf, find, kindOf}
 use Rattle.elements.specs.Rules.{between, permits, allows}
@@ -26,7 +24,7 @@ use Rattle.gsb.proofs.Judged.{good-element}
 use Rattle.gsb.proofs.First.{accepted-exactly}
 use Rattle.transfer.specs.Transfer.{applied}
 use Rattle.transfer.proofs.Named.{Named, applied-frame}
-use Rattle.l0.specs.Run.{inputSize, outputSize}
+use Rattle.run.specs.Run.{inputSize, outputSize}
 
 -- thread elements begin at 0x0C00
 thread-from : (id : ℕ) (x : Entry) → kindOf id ≡ Listed x → x .scope ≡ Thread → 0x0C00 ≤ id

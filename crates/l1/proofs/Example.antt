@@ -1,18 +1,16 @@
 -- The hypotheses of `cache-agrees` can be met: guest 1 with vCPU 0, an input of 2,424 bytes and an output of 124 registered. Assumes nothing.
-use mathlib.Core.Path.{_≡_, refl}
-use mathlib.Core.Bool.{true}
+use mathlib.Core.Path.{refl}
 use mathlib.Core.List.{List, [], _∷_, _++_}
 use Prim.Native.Nat.{ℕ, _≤_, _<_}
 use lib.Dec.{lit<, lit≤}
 use Rattle.octets.specs.Bytes.{bytesAt, put, be, digits, zeros}
 use Rattle.octets.specs.Bits.{bit, bits}
-use Rattle.octets.proofs.Bytes.{length-zeros}
 use Rattle.elements.specs.Table.{table, below, position}
 use Rattle.store.specs.Layout.{small}
 use Rattle.store.specs.Search.{every, first}
 use Rattle.store.specs.Header.{header, capabilitiesOf, live, word, wordOf, isUsed, guestOf, holds, lacks, alone, slotGood, headGood, wordsGood, slotHolding, slotOf}
 use Rattle.store.specs.Store.{wellFormed, fresh}
-use Rattle.l0.specs.State.{baseOf}
+use Rattle.admission.specs.Target.{baseOf}
 use Rattle.l1.specs.Cache.{Cache}
 use Rattle.l1.specs.Agree.{Start}
 

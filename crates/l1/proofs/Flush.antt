@@ -1,29 +1,26 @@
 -- What a run's input holds: the newest writes in order of ID make a message that a run takes, in 2,424 bytes at most. Assumes nothing.
-use mathlib.Core.Path.{_≡_, refl, sym, ap, ap₂, _∙_, subst}
-use mathlib.Core.Bool.{Bool, true, false}
+use mathlib.Core.Path.{_≡_, sym, ap, _∙_}
+use mathlib.Core.Bool.{true}
 use mathlib.Core.List.{List, [], _∷_, _++_}
-use Prim.Native.Nat.{ℕ, zero, suc, _+_, _^_, _≤_, _<_}
+use Prim.Native.Nat.{ℕ, zero, suc, _+_, _≤_, _<_}
 use native.Mathlib.Nat.{not-suc-le-zero, le-of-suc-le-suc}
 use native.Mathlib.Omega.{arith}
-use lib.Dec.{eqb}
-use lib.ListN.{length, getD, length-append}
+use lib.ListN.{length, length-append}
 use borrow.Author.Tests.{eq-eqb}
-use Rattle.octets.specs.Bytes.{bytesAt, put}
 use Rattle.elements.specs.declared.Usage.the-variants.{RunInput}
 use Rattle.elements.specs.declared.Context.{Context}
-use Rattle.elements.specs.Table.{kindOf, numberOf, threadElement}
-use Rattle.elements.specs.Rules.{permits, sizeFits}
+use Rattle.elements.specs.Table.{threadElement}
 use Rattle.gsb.specs.declared.Walked.the-variants.{Done}
 use Rattle.gsb.specs.Walk.{countOf, firstBad}
-use Rattle.gsb.specs.Message.{elementsBytes, message}
+use Rattle.gsb.specs.Message.{message}
 use Rattle.gsb.proofs.Messages.{length-message}
 use Rattle.gsb.proofs.RoundTrip.{Begins, idIn, valueIn, Wire, wire-nil, wire-cons, listed-fits, input-good}
-use Rattle.transfer.specs.Transfer.{putAs, applied}
+use Rattle.transfer.specs.Transfer.{applied}
 use Rattle.transfer.proofs.Messages.{placeAll, place-nil, place-cons, applied-message, thread-numbered}
 use Rattle.exits.specs.Exits.{elementOf}
 use Rattle.l1.specs.Cache.{allowed, isInput}
 use Rattle.l1.specs.Agree.{newest, inOrder}
-use Rattle.l1.proofs.Cells.{Named, element-size, named-fits, named-size, allowed-as, input-named, input-allowed, weight, all-weight}
+use Rattle.l1.proofs.Cells.{element-size, named-fits, allowed-as, input-named, input-allowed, all-weight}
 use Rattle.l1.proofs.Writes.{Fit, Latest, none, some, latest, placed, place, back, back-newest, due-length}
 
 -- ---- the list fits as its writes do

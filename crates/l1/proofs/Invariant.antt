@@ -3,40 +3,32 @@ use mathlib.Core.Path.{_≡_, refl, sym, ap, ap₂, _∙_, subst}
 use mathlib.Core.Logic.{_≢_}
 use mathlib.Core.Bool.{Bool, true, false, not, cond}
 use mathlib.Core.List.{List, [], _∷_}
-use Prim.Native.Nat.{ℕ, suc, _+_, _^_, _≤_, _<_}
+use Prim.Native.Nat.{ℕ, _+_, _^_, _≤_, _<_}
 use native.Mathlib.Decide.{ℕ-discrete}
 use native.Mathlib.Omega.{arith}
 use lib.Dec.{eqb, ltb}
 use lib.ListN.{length}
 use borrow.Author.Tests.{eqb-true}
-use Rattle.octets.specs.Bytes.{bytesAt, put}
-use Rattle.answer.specs.declared.Answer.{Answer}
 use Rattle.answer.specs.declared.Bad.the-variants.{Id, Size}
 use Rattle.answer.specs.declared.Call.{Call as Name}
-use Rattle.answer.specs.declared.Fault.{Fault}
-use Rattle.answer.specs.declared.Fault.the-variants.{None, Length, Element, Cache as CacheBad}
-use Rattle.answer.specs.Answer.{told}
-use Rattle.answer.specs.Refusals.{firstOf}
+use Rattle.answer.specs.declared.Fault.the-variants.{Length, Element, Cache as CacheBad}
 use Rattle.elements.specs.Table.{numberOf, threadElement}
 use Rattle.elements.specs.Rules.{goodInput, goodOutput}
-use Rattle.gsb.specs.Walk.{countOf}
 use Rattle.gsb.proofs.RoundTrip.{firstPlace}
 use Rattle.store.specs.declared.Layout.{Layout}
 use Rattle.store.specs.Layout.{Sound}
 use Rattle.store.proofs.Search.{no-bool}
-use Rattle.transfer.specs.Transfer.{filled}
 use Rattle.exits.specs.Exits.{elementOf}
-use Rattle.l0.specs.Refusals.{Outcome, success, refusal, accept, refuse}
-use Rattle.l0.specs.State.{fillWith, getState}
-use Rattle.l0.specs.Run.{inputSize, outputSize}
-use Rattle.l1.specs.Cache.{Cache, valid, changed, isInput, isReadable, isSpecial, goodCache, first, Wrote, change, writeCache, Got, keep, one, valueIn, fetched, readCache}
-use Rattle.l1.specs.Plain.{writePlain, readPlain}
-use Rattle.l1.specs.Agree.{Op, Write, Read, Seen, seen, Turn, Cached, cachedTurn, plainTurn, since, newest, inOrder, Same}
-use Rattle.l1.proofs.Cells.{Named, number-named, named-number, number-back, named-back, special-out, input-named, input-common, readable-named, readable-common, valueOf, value-same, value-other, length-value}
-use Rattle.l1.proofs.Writes.{Fit, placed, back, back-cons, length-back, newest-same, newest-other, Latest, none, some, latest, read-none}
+use Rattle.admission.specs.Refusals.{Outcome, success, refusal, accept, refuse}
+use Rattle.run.specs.Run.{inputSize, outputSize}
+use Rattle.l1.specs.Cache.{Cache, valid, changed, isInput, isSpecial, goodCache, first, Wrote, change, writeCache, keep}
+use Rattle.l1.specs.Plain.{writePlain}
+use Rattle.l1.specs.Agree.{Op, Write, seen, Turn, Cached, cachedTurn, plainTurn, since, newest, Same}
+use Rattle.l1.proofs.Cells.{Named, number-named, named-number, number-back, named-back, input-named, input-common, valueOf, value-same, value-other, length-value}
+use Rattle.l1.proofs.Writes.{Fit, placed, back, back-cons, newest-same, newest-other, Latest, none, some, latest, read-none}
 use Rattle.l1.proofs.Ours.{base, Ours, ours-room, back-ours}
-use Rattle.l1.proofs.Single.{write-long, read-long, write-special, read-special, write-id, read-id, write-size, read-size, write-good, get-good, read-good, filled-value}
-use Rattle.l1.proofs.Caches.{cell, cell-is, dueAt, keep-values, keep-marks, keep-same, keep-other, keep-valid, keep-valid-other, keep-changed, change-values, change-marks, change-same, change-other, change-valid, change-valid-other, change-changed, change-changed-other, well-formed}
+use Rattle.l1.proofs.Single.{write-long, write-special, write-id, write-size, write-good}
+use Rattle.l1.proofs.Caches.{cell, dueAt, keep-values, keep-marks, keep-same, keep-other, keep-valid, keep-valid-other, keep-changed, change-values, change-marks, change-same, change-other, change-valid, change-valid-other, change-changed, change-changed-other, well-formed}
 
 module _ (l : Layout) (so : Sound l) (g v j : ℕ) (below : j < l .slots) where
   abbrev pub at : ℕ

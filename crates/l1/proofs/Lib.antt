@@ -16,6 +16,7 @@ pub mod OtherTurn
 pub mod Flush
 pub mod Refresh
 pub mod Running
+pub mod Unchanged
 pub mod Effects
 pub mod RunTurn
 pub mod CacheAgrees

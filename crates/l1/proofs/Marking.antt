@@ -1,12 +1,12 @@
 -- The marks of a cache and its test, in the form of the code's needs. Assumes nothing.
-use mathlib.Core.Path.{_≡_, refl, sym, ap, ap₂, _∙_, subst}
+use mathlib.Core.Path.{_≡_, refl, sym, ap, ap₂, _∙_}
 use mathlib.Core.Bool.{Bool, true, false, not, _&&_, _||_, cond}
 use mathlib.Core.List.{List, []}
-use Prim.Native.Nat.{ℕ, zero, suc, _+_, _-_, _*_, _/_, _%_, _^_, _≤_, _<_}
+use Prim.Native.Nat.{ℕ, _+_, _-_, _*_, _%_, _^_, _≤_, _<_}
 use native.Mathlib.Nat.{one-mul}
 use native.Mathlib.Decide.{decLt}
 use native.Mathlib.Omega.{arith}
-use lib.Dec.{lit<, eqb, leb, ltb}
+use lib.Dec.{lit<, eqb, ltb}
 use lib.ListN.{length}
 use lib.Pow.{shl-exact}
 use borrow.Author.Tests.{eq-eqb, ne-eqb, eqb-true, lt-ltb, le-ltb, lt-leb, le-leb, not-true, not-false}
@@ -20,7 +20,7 @@ use Rattle.store.specs.Layout.{slotBytes}
 use Rattle.store.specs.Search.{every}
 use Rattle.store.proofs.Loops.{every-past, every-out, every-end}
 use Rattle.store.proofs.Search.{both}
-use Rattle.l1.specs.Cache.{Cache, isMarked, withMark, valid, changed, allowed, isInput, isReadable, isSpecial, markGood, goodCache}
+use Rattle.l1.specs.Cache.{Cache, isMarked, valid, changed, allowed, isInput, isReadable, markGood, goodCache}
 
 pub one-shifted : (k : ℕ) → k < 64 → 1 * 2 ^ k % 2 ^ 64 ≡ 2 ^ k
 one-shifted k h = shl-exact 1 k 64 (lit< tt) (omega arith) ∙ one-mul (2 ^ k)

@@ -1,32 +1,27 @@
 -- A call on another guest: both L1s see the same of it, and stay tied. Assumes nothing.
-use mathlib.Core.Path.{_≡_, refl, sym, ap, ap₂, _∙_, subst}
-use mathlib.Core.Bool.{Bool, true, false}
+use mathlib.Core.Path.{_≡_, refl, sym, ap, ap₂, _∙_}
 use mathlib.Core.List.{List, [], _∷_}
-use Prim.Native.Nat.{ℕ, _+_, _≤_, _<_}
+use Prim.Native.Nat.{ℕ, _+_, _<_}
 use native.Mathlib.Omega.{arith}
-use lib.ListN.{length}
-use Rattle.octets.specs.Bytes.{bytesAt, put}
+use Rattle.octets.specs.Bytes.{bytesAt}
 use Rattle.answer.specs.declared.Answer.{Answer}
-use Rattle.answer.specs.declared.Registers.{Registers}
 use Rattle.answer.specs.Answer.{told}
 use Rattle.elements.specs.Table.{threadElement}
 use Rattle.elements.specs.Rules.{goodInput, goodOutput}
 use Rattle.store.specs.declared.Layout.{Layout}
 use Rattle.store.specs.Layout.{Sound, slotBytes}
-use Rattle.store.specs.Store.{wellFormed}
 use Rattle.exits.specs.Exits.{elementOf}
-use Rattle.l0.specs.Refusals.{Outcome}
-use Rattle.l0.specs.Run.{inputSize, outputSize}
+use Rattle.admission.specs.Refusals.{Outcome}
 use Rattle.l0.specs.Calls.{Call, outcome}
 use Rattle.promises.specs.History.{nameOf, registers}
 use Rattle.promises.specs.Apart.{Elsewhere}
 use Rattle.promises.proofs.Kept.{well-formed-kept}
 use Rattle.promises.proofs.Apart.{apart-slot, apart-values, apart-write}
-use Rattle.l1.specs.Agree.{Op, Other, Seen, Turn, Cached, cachedTurn, plainTurn, since}
-use Rattle.l1.proofs.Cells.{input-named, named-end, number-named, valueOf}
-use Rattle.l1.proofs.Writes.{Fit, placed, back, back-cons, back-nil}
+use Rattle.l1.specs.Agree.{Other, Cached, cachedTurn, plainTurn, since}
+use Rattle.l1.proofs.Cells.{input-named, named-end, number-named}
+use Rattle.l1.proofs.Writes.{Fit, placed, back}
 use Rattle.l1.proofs.Ours.{Ours, back-ours, values-value, values-input, values-output}
-use Rattle.l1.proofs.Invariant.{at, Inv, Goes, as-turned, plain-ours}
+use Rattle.l1.proofs.Invariant.{at, Inv, Goes, plain-ours}
 
 module _ (l : Layout) (so : Sound l) (g v j : ℕ) (below : j < l .slots) (c : Call) (far : Elsewhere g c) where
   abbrev place : ℕ

@@ -1,18 +1,15 @@
 -- A store in which the vCPU has slot j: what its calls find there, and what a write into the slot leaves. Assumes nothing.
-use mathlib.Core.Path.{_≡_, refl, sym, ap, ap₂, _∙_, subst}
-use mathlib.Core.Logic.{_≢_}
+use mathlib.Core.Path.{_≡_, refl, sym, ap, _∙_, subst}
 use mathlib.Core.Bool.{Bool, true, false, not, _&&_, cond}
-use mathlib.Core.List.{List, [], _∷_, _++_}
-use Prim.Native.Nat.{ℕ, suc, _+_, _*_, _^_, _≤_, _<_}
+use mathlib.Core.List.{List}
+use Prim.Native.Nat.{ℕ, _+_, _≤_, _<_}
 use native.Mathlib.Omega.{arith}
-use lib.Dec.{eqb, leb, ltb}
+use lib.Dec.{ltb}
 use lib.ListN.{length}
 use borrow.Author.Tests.{lt-leb}
-use Rattle.octets.specs.Bytes.{bytesAt, put, be}
-use Rattle.octets.proofs.Bytes.{Clear, right, length-put, part-of-part}
-use Rattle.octets.proofs.Numbers.{be-other, be-part, be-ext}
-use Rattle.answer.specs.declared.Fault.{Fault}
-use Rattle.elements.specs.declared.Scope.the-variants.{Thread}
+use Rattle.octets.specs.Bytes.{bytesAt, be}
+use Rattle.octets.proofs.Bytes.{right, part-of-part}
+use Rattle.octets.proofs.Numbers.{be-other, be-part}
 use Rattle.elements.specs.Table.{table, below, position}
 use Rattle.store.specs.declared.Layout.{Layout}
 use Rattle.store.specs.Layout.{Sound, slotBytes, slotAt}
@@ -20,13 +17,13 @@ use Rattle.store.specs.Header.{header, live, slotHolding, wordOf, slotOf}
 use Rattle.store.specs.Store.{wellFormed}
 use Rattle.store.proofs.Frame.{header-values, formed-values, formed}
 use Rattle.exits.specs.Exits.{elementOf}
-use Rattle.l0.specs.Refusals.{bit0, hasBit0}
-use Rattle.l0.specs.State.{targetTests, baseOf}
-use Rattle.l0.specs.Run.{inputSize, outputSize}
-use Rattle.l0.proofs.Judging.{Passed}
+use Rattle.admission.specs.Refusals.{bit0}
+use Rattle.admission.specs.Target.{targetTests, baseOf}
+use Rattle.run.specs.Run.{inputSize, outputSize}
+use Rattle.admission.proofs.Judging.{Passed}
 use Rattle.l1.specs.Cache.{isInput}
-use Rattle.l1.proofs.Cells.{Named, named-end, input-named, input-behind, valueOf}
-use Rattle.l1.proofs.Writes.{Fit, placed, back, back-keeps, length-back}
+use Rattle.l1.proofs.Cells.{Named, named-end, input-behind, valueOf}
+use Rattle.l1.proofs.Writes.{Fit, placed, back, back-keeps}
 
 module _ (l : Layout) (so : Sound l) (g v j : ℕ) (below-slots : j < l .slots) where
   -- where the vCPU's values start

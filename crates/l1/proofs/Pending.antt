@@ -1,6 +1,6 @@
 -- The changed elements, from mark to mark: one law of a turn serves the walk that counts their bytes and the one that writes them.
 -- Assumes nothing.
-use mathlib.Core.Path.{_≡_, refl, sym, ap, ap₂, _∙_, subst}
+use mathlib.Core.Path.{_≡_, refl, sym, ap, ap₂, _∙_}
 use mathlib.Core.Bool.{Bool, true, false, not, _&&_, _||_, cond}
 use mathlib.Core.List.{List, [], _∷_, _++_, append-nil}
 use Prim.Native.Nat.{ℕ, zero, suc, _+_, _-_, _*_, _^_, min, _≤_, _<_}
@@ -15,16 +15,15 @@ use Rattle.elements.specs.declared.Element.{Element}
 use Rattle.elements.specs.Table.{threadElement}
 use Rattle.gsb.specs.Message.{elementBytes, elementsBytes, message}
 use Rattle.gsb.proofs.Messages.{length-more, elements-none, elements-more, message-put, length-message}
-use Rattle.exits.specs.Exits.{elementOf, weigh, rowBytes, valued}
+use Rattle.exits.specs.Exits.{weigh, rowBytes, valued}
 use Rattle.exits.proofs.Written.{weigh-append, valued-append, length-valued}
 use Rattle.store.specs.Layout.{slotBytes}
 use Rattle.store.specs.Search.{every, first, tally}
-use Rattle.store.proofs.Search.{both, every-at, Found, first-bounds, first-found, found-first, first-none}
+use Rattle.store.proofs.Search.{both, every-at, first-bounds, first-found, found-first, first-none}
 use Rattle.l1.specs.Cache.{Cache, isMarked, valid, changed, isInput, markGood, goodCache, chosen, pending}
 use Rattle.l1.specs.Private.{isChanged}
 use Rattle.l1.proofs.Marking.{values-long, marks-long}
 use Rattle.l1.proofs.Values.{number-inside, number-small, number-back}
-use Rattle.l1.proofs.Words.{tally-append}
 
 -- ---- the chosen ones
 pub chosen-skip : (p : ℕ → Bool) (a d : ℕ) → ((j : ℕ) → a ≤ j → j < a + d → p j ≡ false) → chosen p (a + d) ≡ chosen p a

@@ -1,9 +1,8 @@
 -- A read: the cached and the plain L1 give the same, and stay tied. Assumes nothing.
-use mathlib.Core.Path.{_≡_, refl, sym, ap, ap₂, _∙_, subst}
+use mathlib.Core.Path.{_≡_, refl, sym, ap, ap₂, _∙_}
 use mathlib.Core.Bool.{Bool, true, false, not, cond}
-use mathlib.Core.List.{List, [], _∷_}
-use Prim.Native.Nat.{ℕ, _+_, _^_, _≤_, _<_}
-use native.Mathlib.Omega.{arith}
+use mathlib.Core.List.{List, []}
+use Prim.Native.Nat.{ℕ, _^_, _<_}
 use lib.Dec.{eqb, ltb}
 use lib.ListN.{length}
 use borrow.Author.Tests.{eqb-true}
@@ -13,18 +12,18 @@ use Rattle.answer.specs.declared.Call.{Call as Name}
 use Rattle.answer.specs.declared.Registers.{Registers}
 use Rattle.answer.specs.declared.Fault.the-variants.{Length, Element, Cache as CacheBad}
 use Rattle.answer.specs.Answer.{three}
-use Rattle.elements.specs.Table.{numberOf, threadElement}
+use Rattle.elements.specs.Table.{numberOf}
 use Rattle.gsb.specs.Walk.{countOf}
 use Rattle.gsb.proofs.RoundTrip.{firstPlace, one-value}
 use Rattle.store.specs.declared.Layout.{Layout}
 use Rattle.store.specs.Layout.{Sound}
 use Rattle.transfer.specs.Transfer.{filled}
 use Rattle.exits.specs.Exits.{elementOf}
-use Rattle.l0.specs.Refusals.{Outcome, success, refusal, refuse}
-use Rattle.l0.specs.State.{fillWith, getState}
-use Rattle.l1.specs.Cache.{Cache, valid, isReadable, isSpecial, goodCache, first, Got, keep, one, valueIn, fetched, readCache}
+use Rattle.admission.specs.Refusals.{Outcome, success, refusal, refuse}
+use Rattle.state.specs.State.{fillWith, getState}
+use Rattle.l1.specs.Cache.{valid, isReadable, isSpecial, first, Got, keep, one, valueIn, fetched, readCache}
 use Rattle.l1.specs.Plain.{readPlain}
-use Rattle.l1.specs.Agree.{Op, Read, Seen, seen, Turn, Cached, cachedTurn, plainTurn, since}
+use Rattle.l1.specs.Agree.{Read, Seen, seen, Turn, Cached, cachedTurn, plainTurn, since}
 use Rattle.l1.proofs.Cells.{Named, named-number, named-back, readable-named, readable-common, valueOf}
 use Rattle.l1.proofs.Single.{read-long, read-special, read-id, read-size, get-good, read-good, filled-value}
 use Rattle.l1.proofs.Caches.{cell, cell-is}

@@ -1,6 +1,6 @@
 -- A read, in the form of the code's needs. Assumes nothing.
-use mathlib.Core.Path.{_≡_, refl, sym, ap, ap₂, _∙_, subst}
-use mathlib.Core.Bool.{Bool, true, false, not, _&&_, cond}
+use mathlib.Core.Path.{_≡_, refl, sym, ap, ap₂, _∙_}
+use mathlib.Core.Bool.{Bool, true, false, not, cond}
 use mathlib.Core.List.{List}
 use Prim.Native.Nat.{ℕ, _+_, _≤_, _<_}
 use native.Mathlib.Nat.{eq-zero-or-pos}
@@ -20,17 +20,17 @@ use Rattle.answer.specs.Answer.{told}
 use Rattle.answer.specs.Refusals.{firstOf}
 use Rattle.elements.specs.declared.Usage.the-variants.{ThreadGet}
 use Rattle.elements.specs.declared.Element.{Element as Thing}
-use Rattle.elements.specs.Table.{kindOf, numberOf, threadElement}
+use Rattle.elements.specs.Table.{kindOf, numberOf}
 use Rattle.elements.specs.Rules.{permits}
 use Rattle.exits.specs.Exits.{elementOf}
 use Rattle.store.specs.Layout.{small}
 use Rattle.store.proofs.Search.{both, no-bool}
-use Rattle.l0.specs.declared.Admission.{Admission}
-use Rattle.l0.specs.declared.Admission.the-variants.{Admitted, Refused}
-use Rattle.l0.specs.Refusals.{Outcome, success, refusal, judgement}
-use Rattle.l0.specs.State.{gotElement}
-use Rattle.l0.proofs.Judging.{all-refused, all-admitted}
-use Rattle.l1.specs.Cache.{Cache, isMarked, valid, allowed, isReadable, isSpecial, Got, accepted, keep, fetched, readCache}
+use Rattle.admission.specs.declared.Admission.{Admission}
+use Rattle.admission.specs.declared.Admission.the-variants.{Admitted, Refused}
+use Rattle.admission.specs.Refusals.{success, refusal, judgement}
+use Rattle.state.specs.State.{gotElement}
+use Rattle.admission.proofs.Judging.{all-refused, all-admitted}
+use Rattle.l1.specs.Cache.{Cache, isMarked, allowed, isReadable, isSpecial, Got, accepted, keep, fetched, readCache}
 use Rattle.l1.specs.Private.{elementTests, elementGood, readValue}
 use Rattle.l1.proofs.Values.{number-inside, readable-thread, thread-number}
 

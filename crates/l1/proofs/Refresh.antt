@@ -2,13 +2,13 @@
 use mathlib.Core.Path.{_≡_, refl, sym, ap, ap₂, _∙_, subst}
 use mathlib.Core.Bool.{Bool, true, false, _&&_, cond}
 use mathlib.Core.List.{List, [], _∷_, _++_}
-use Prim.Native.Nat.{ℕ, zero, suc, _+_, _^_, _≤_, _<_}
+use Prim.Native.Nat.{ℕ, zero, suc, _+_, _≤_, _<_}
 use native.Mathlib.Omega.{arith}
 use lib.Dec.{eqb, ltb}
 use lib.ListN.{length, getD, take}
 use lib.Seq.{take-suc, take-length}
 use borrow.Author.Tests.{eqb-true, ltb-true}
-use Rattle.octets.specs.Bytes.{bytesAt, put, zeros}
+use Rattle.octets.specs.Bytes.{put, zeros}
 use Rattle.octets.proofs.Bytes.{length-zeros}
 use Rattle.elements.specs.declared.Scope.{Scope}
 use Rattle.elements.specs.declared.Source.{Source}
@@ -23,18 +23,18 @@ use Rattle.gsb.proofs.RoundTrip.{Begins, idIn, valueIn, Wire, wire-nil, wire-co
 use Rattle.store.specs.declared.Layout.{Layout}
 use Rattle.store.specs.Layout.{Sound}
 use Rattle.store.proofs.Search.{both}
-use Rattle.transfer.specs.Transfer.{applied, Fits, Moves, Ready, AllReady}
+use Rattle.transfer.specs.Transfer.{Fits, Moves, Ready, AllReady}
 use Rattle.transfer.proofs.Messages.{placeAll, place-nil, place-cons, applied-message, thread-numbered}
 use Rattle.exits.specs.Exits.{exits, rowOf, returned, elementOf, valued}
 use Rattle.exits.proofs.Written.{length-valued}
-use Rattle.l0.specs.Run.{inputSize, outputSize}
-use Rattle.l1.specs.Cache.{Cache, withMark, valid, changed, keep, marked, refreshed}
+use Rattle.run.specs.Run.{inputSize, outputSize}
+use Rattle.l1.specs.Cache.{Cache, withMark, changed, keep, marked, refreshed}
 use Rattle.l1.specs.Agree.{Cached, newest}
 use Rattle.l1.proofs.MarkLaws.{mark-none}
 use Rattle.l1.proofs.Cells.{Named, element-size, element-place, named-end, number-named, named-number, valueOf, length-value}
-use Rattle.l1.proofs.Writes.{Fit, back-nil}
-use Rattle.l1.proofs.Ours.{Ours, ours-room}
-use Rattle.l1.proofs.Caches.{cell, dueAt}
+use Rattle.l1.proofs.Writes.{back-nil}
+use Rattle.l1.proofs.Ours.{Ours}
+use Rattle.l1.proofs.Caches.{cell}
 use Rattle.l1.proofs.Invariant.{at, Inv, keep-inv}
 
 -- ---- computed over the table of exits: every ID in it names a thread element

@@ -1,15 +1,15 @@
 -- The cache after a run: the laws of the loops that clear the marks and set those of the output's elements. Assumes nothing.
 use mathlib.Core.Path.{_≡_, refl, sym, ap, ap₂, _∙_, subst}
 use mathlib.Core.List.{List, _++_, append-nil}
-use Prim.Native.Nat.{ℕ, zero, suc, _+_, _^_, _≤_, _<_}
+use Prim.Native.Nat.{ℕ, _+_, _^_, _≤_, _<_}
 use native.Mathlib.Numerals.{add-one}
 use native.Mathlib.Omega.{arith}
-use lib.ListN.{length, drop, replicate, set}
+use lib.ListN.{length, drop, set}
 use lib.Seq.{drop-length}
 use borrow.Author.Fill.{fill-none, fill-more}
 use Rattle.octets.specs.Bytes.{zeros}
 use Rattle.elements.specs.Table.{numberOf}
-use Rattle.gsb.specs.Walk.{countOf, idAt, sizeAt, nextAt, offsetAt}
+use Rattle.gsb.specs.Walk.{countOf, idAt, sizeAt, offsetAt}
 use Rattle.gsb.proofs.Walks.{offset-next}
 use Rattle.transfer.specs.Transfer.{applied, Ready, AllReady}
 use Rattle.transfer.proofs.Moving.{ready-at}

@@ -1,15 +1,14 @@
 -- A run: the cached and the plain L1 give the same, their stores are equal after an accepted one, and they stay tied. Assumes nothing.
 use mathlib.Core.Path.{_≡_, refl, sym, ap, ap₂, _∙_, subst}
-use mathlib.Core.Bool.{Bool, true, false, not, _&&_, _||_, cond}
+use mathlib.Core.Bool.{Bool, true, false, not, _||_, cond}
 use mathlib.Core.List.{List, [], _∷_, _++_}
-use Prim.Native.Nat.{ℕ, zero, suc, _+_, _^_, _≤_, _<_}
+use Prim.Native.Nat.{ℕ, _+_, _≤_, _<_}
 use native.Mathlib.Omega.{arith}
 use lib.Dec.{eqb, ltb, leb}
-use lib.ListN.{length, getD}
+use lib.ListN.{length}
 use borrow.Author.Tests.{le-ltb, ltb-false, leb-true, not-false, ne-eqb}
-use Rattle.octets.specs.Bytes.{bytesAt, put, be, zeros}
-use Rattle.octets.proofs.Bytes.{length-put, length-bytesAt, length-zeros}
-use Rattle.octets.proofs.Numbers.{be-ext}
+use Rattle.octets.specs.Bytes.{bytesAt, put, zeros}
+use Rattle.octets.proofs.Bytes.{length-put, length-zeros}
 use Rattle.answer.specs.declared.Fault.{Fault}
 use Rattle.answer.specs.declared.Fault.the-variants.{None, Store, Flag, Guest, Token, Capability, Vcpu, Length, Element, Room, Exists, Unregistered, Short, Exit, Effect, Cache as CacheBad}
 use Rattle.answer.specs.declared.RunBuffer.the-variants.{Input, Output}
@@ -18,8 +17,6 @@ use Rattle.answer.specs.declared.Registers.{Registers}
 use Rattle.answer.specs.Answer.{told}
 use Rattle.answer.specs.Refusals.{firstOf}
 use Rattle.elements.specs.declared.Usage.the-variants.{RunInput, Effect as InEffect}
-use Rattle.elements.specs.declared.Context.{Context}
-use Rattle.elements.specs.Table.{table, below, position}
 use Rattle.elements.specs.Rules.{goodInput, goodOutput}
 use Rattle.gsb.specs.declared.Walked.{Walked}
 use Rattle.gsb.specs.declared.Walked.the-variants.{Done, Stopped}
@@ -29,27 +26,24 @@ use Rattle.gsb.proofs.RoundTrip.{Begins, begins-put, begins-first, zeros-first,
 use Rattle.store.specs.declared.Layout.{Layout}
 use Rattle.store.specs.Layout.{Sound}
 use Rattle.store.specs.Header.{header, capabilitiesOf, live, slotOf}
-use Rattle.store.specs.Store.{wellFormed}
 use Rattle.store.proofs.Search.{both}
 use Rattle.transfer.specs.Transfer.{applied}
-use Rattle.transfer.proofs.Moving.{length-applied}
 use Rattle.transfer.proofs.Messages.{applied-zeros}
 use Rattle.exits.specs.Exits.{known, returned, valued, outputOf}
 use Rattle.exits.proofs.Rows.{length-output, output-short, returned-few}
-use Rattle.l0.specs.declared.Admission.{Admission}
-use Rattle.l0.specs.declared.Admission.the-variants.{Admitted, Refused}
-use Rattle.l0.specs.Refusals.{Outcome, success, refusal, refuse, decide, judgement, malformed, unsupported, notLive}
-use Rattle.l0.specs.State.{targetTests, baseOf, contextOf, isStopped, faultOf, badElement}
-use Rattle.l0.specs.Run.{runBits, inputSize, outputSize, lentTests, effectFault, exitTests, spotTests, inputOf, contentTests, runTests, ranStore, ran, runVcpu}
-use Rattle.l0.proofs.Judging.{settle, settle-append, settle-all, begin-refused, begin-admitted, all-refused, all-admitted, Passed, judged-passed}
+use Rattle.admission.specs.declared.Admission.{Admission}
+use Rattle.admission.specs.declared.Admission.the-variants.{Admitted, Refused}
+use Rattle.admission.specs.Refusals.{Outcome, success, refusal, refuse, decide, judgement, unsupported}
+use Rattle.state.specs.State.{contextOf, isStopped, faultOf}
+use Rattle.run.specs.Run.{runBits, inputSize, outputSize, lentTests, effectFault, exitTests, spotTests, inputOf, contentTests, ranStore, ran, runVcpu}
+use Rattle.admission.proofs.Judging.{begin-refused, begin-admitted, all-refused, all-admitted, judged-passed}
 use Rattle.promises.proofs.Kept.{applied-header, applied-kept}
 use Rattle.promises.proofs.Lowest.{Real}
 use Rattle.promises.proofs.Used.{none-told}
-use Rattle.l1.specs.Cache.{Cache, goodCache, pending, refreshed, Ran, ranWith, runCache}
+use Rattle.l1.specs.Cache.{Cache, pending, refreshed, Ran, ranWith, runCache}
 use Rattle.l1.specs.Plain.{runPlain}
-use Rattle.l1.specs.Agree.{Op, Run, Seen, seen, Turn, Cached, cachedTurn, plainTurn, since, inOrder, inputWith, Same}
-use Rattle.l1.proofs.Writes.{Fit, back}
-use Rattle.l1.proofs.Ours.{base, Ours, ours-base, ours-room, ours-long, back-header, back-input, back-output}
+use Rattle.l1.specs.Agree.{Op, Run, seen, Turn, Cached, cachedTurn, plainTurn, since, inOrder}
+use Rattle.l1.proofs.Ours.{Ours, ours-base, ours-room, back-header, back-input, back-output}
 use Rattle.l1.proofs.Caches.{pending-due}
 use Rattle.l1.proofs.Invariant.{at, Inv, Goes, as-turned, plain-ours, cache-good}
 use Rattle.l1.proofs.Flush.{due-applied, due-good, due-need}

@@ -1,13 +1,13 @@
 -- A run of a good cache, in the form of the code's needs: what is sent fits and is taken, and the output can be kept. Assumes nothing.
 use mathlib.Core.Path.{_≡_, refl, sym, ap, ap₂, _∙_, subst}
 use mathlib.Core.Bool.{Bool, true, false, not, _&&_, _||_, cond}
-use mathlib.Core.List.{List, [], _∷_, _++_}
+use mathlib.Core.List.{List, [], _∷_}
 use Prim.Native.Nat.{ℕ, zero, suc, _+_, _≤_, _<_}
 use native.Mathlib.Omega.{arith}
 use lib.Dec.{eqb, ltb}
 use lib.ListN.{length, length-append}
 use borrow.Author.Tests.{lt-ltb, le-ltb, ltb-false, not-true, not-false}
-use Rattle.octets.specs.Bytes.{bytesAt, put}
+use Rattle.octets.specs.Bytes.{put}
 use Rattle.octets.proofs.Bytes.{length-put}
 use Rattle.answer.specs.declared.Answer.{Answer}
 use Rattle.answer.specs.declared.Fault.{Fault}
@@ -16,33 +16,33 @@ use Rattle.answer.specs.Refusals.{firstOf}
 use Rattle.elements.specs.declared.Usage.the-variants.{RunInput}
 use Rattle.elements.specs.Table.{threadElement}
 use Rattle.gsb.specs.declared.Walked.{Walked}
-use Rattle.gsb.specs.declared.Walked.the-variants.{Done, Stopped}
+use Rattle.gsb.specs.declared.Walked.the-variants.{Done}
 use Rattle.gsb.specs.Walk.{countOf, firstBad}
-use Rattle.gsb.specs.Message.{elementsBytes, message}
+use Rattle.gsb.specs.Message.{message}
 use Rattle.gsb.proofs.Messages.{length-message}
 use Rattle.gsb.proofs.RoundTrip.{Begins, begins-put, begins-first}
-use Rattle.store.specs.declared.Layout.{Layout}
-use Rattle.store.specs.Layout.{Sound, small, slotBytes}
-use Rattle.store.specs.Search.{every, tally}
+use Rattle.store.specs.Layout.{small, slotBytes}
+use Rattle.store.specs.Search.{every}
 use Rattle.store.proofs.Search.{both, every-at}
 use Rattle.store.proofs.Small.{sound-small}
 use Rattle.transfer.specs.Transfer.{applied, AllReady}
 use Rattle.transfer.proofs.Moving.{length-applied}
-use Rattle.exits.specs.Exits.{returned, elementOf, rowBytes, valued, outputOf}
+use Rattle.exits.specs.Exits.{returned, rowBytes, valued, outputOf}
 use Rattle.exits.proofs.Written.{valued-append, length-valued}
 use Rattle.exits.proofs.Rows.{length-output, output-short, returned-few}
-use Rattle.l0.specs.declared.Admission.{Admission}
-use Rattle.l0.specs.declared.Admission.the-variants.{Admitted, Refused}
-use Rattle.l0.specs.Refusals.{Outcome, success, refusal, refuse, decide, judgement}
-use Rattle.l0.specs.State.{baseOf, contextOf, isStopped, faultOf}
-use Rattle.l0.specs.Run.{inputSize, outputSize, exitTests, spotTests, inputOf, contentTests, cachedTests, cachedGood, ranStore, ran, runVcpu}
-use Rattle.l0.proofs.Judging.{begin-admitted, all-refused, all-admitted, Passed, judged-passed}
-use Rattle.l0.proofs.Runs.{Spotted, spotted}
+use Rattle.admission.specs.declared.Admission.{Admission}
+use Rattle.admission.specs.declared.Admission.the-variants.{Admitted, Refused}
+use Rattle.admission.specs.Refusals.{Outcome, refusal, refuse, decide, judgement}
+use Rattle.admission.specs.Target.{baseOf}
+use Rattle.state.specs.State.{contextOf, isStopped, faultOf}
+use Rattle.run.specs.Run.{inputSize, exitTests, spotTests, inputOf, contentTests, cachedTests, cachedGood, ranStore, ran, runVcpu}
+use Rattle.admission.proofs.Judging.{begin-admitted, all-refused, all-admitted, Passed, judged-passed}
+use Rattle.run.proofs.Runs.{Spotted, spotted}
 use Rattle.l1.specs.Cache.{Cache, valid, changed, isInput, markGood, goodCache, chosen, pending, refreshed, Ran, ranWith, runCache}
 use Rattle.l1.specs.Private.{isChanged}
 use Rattle.l1.proofs.Marking.{values-long, marks-long}
-use Rattle.l1.proofs.Pending.{weighed, length-chosen}
-use Rattle.l1.proofs.Cells.{Named, number-named, valueOf, length-value}
+use Rattle.l1.proofs.Pending.{weighed}
+use Rattle.l1.proofs.Cells.{number-named, length-value}
 use Rattle.l1.proofs.Writes.{Fit}
 use Rattle.l1.proofs.Flush.{fit-append, fit-good}
 use Rattle.l1.proofs.Refresh.{returned-named, valued-ready}
@@ -183,9 +183,10 @@ module _ (s vs ms input output effect : List ℕ) (flags guest vcpu exit : ℕ) 
     walked : firstBad (contextOf small s RunInput) (inputOf s base laid) ≡ Done
     walked = fit-good (contextOf small s RunInput) refl (pending c) (inputOf s base laid) (pending-fit c good) (pending-few c good) begun
 
-    accepted : runVcpu small s flags guest vcpu laid output effect exit ≡ ran base s (inputOf s base laid) output effect exit
+    pub run-accepted : runVcpu small s flags guest vcpu (put input 0 (message (pending (record { values = vs; marks = ms })))) output effect exit
+        ≡ ran (baseOf small s false guest vcpu) s (inputOf s (baseOf small s false guest vcpu) (put input 0 (message (pending (record { values = vs; marks = ms }))))) output effect exit
     unfolding runVcpu decide
-    accepted =
+    run-accepted =
         begin-admitted (refuse s output) (ran base s (inputOf s base laid) output effect exit) (spotTests small s flags guest vcpu 0 (length laid) (length output)) (contentTests small s (inputOf s base laid) effect exit)
         (passed-judged (spotTests small s flags guest vcpu 0 (length laid) (length output)) spots)
         ∙ ap (λ (w : Walked). cond (isStopped w) (refuse s output (faultOf w)) (firstOf (refuse s output) (exitTests small s effect exit) (ran base s (inputOf s base laid) output effect exit))) walked
@@ -202,7 +203,7 @@ module _ (s vs ms input output effect : List ℕ) (flags guest vcpu exit : ℕ) 
 
       out-is : v ≡ put output 0 (outputOf base (ranStore base (inputOf s base laid) effect s) exit)
       unfolding ran
-      out-is = ap (λ (y : Outcome). y .buffer) (was ∙ accepted)
+      out-is = ap (λ (y : Outcome). y .buffer) (was ∙ run-accepted)
 
       ran-long : length (ranStore base (inputOf s base laid) effect s) ≡ length s
       unfolding ranStore

@@ -1,42 +1,38 @@
 -- Set and get state of one element: what the plain L1 makes of a write and of a read. Assumes nothing.
-use mathlib.Core.Path.{_≡_, refl, sym, ap, ap₂, _∙_, subst}
-use mathlib.Core.Logic.{_≢_}
-use mathlib.Core.Bool.{Bool, true, false, not, _&&_, _||_, cond}
-use mathlib.Core.List.{List, [], _∷_, _++_, append-nil, append-assoc}
-use Prim.Native.Nat.{ℕ, suc, _+_, _^_, _≤_, _<_}
+use mathlib.Core.Path.{_≡_, refl, sym, ap, ap₂, _∙_}
+use mathlib.Core.Bool.{Bool, true, false, not, _&&_, cond}
+use mathlib.Core.List.{List, [], _∷_}
+use Prim.Native.Nat.{ℕ, _+_, _^_, _<_}
 use native.Mathlib.Omega.{arith}
 use lib.Dec.{eqb, ltb}
 use lib.ListN.{length}
-use borrow.Author.Tests.{ltb-false, eqb-true}
+use borrow.Author.Tests.{ltb-false}
 use Rattle.octets.specs.Bytes.{bytesAt, put}
-use Rattle.answer.specs.declared.Bad.{Bad}
 use Rattle.answer.specs.declared.Bad.the-variants.{Id, Size, Value}
 use Rattle.answer.specs.declared.Fault.{Fault}
 use Rattle.answer.specs.declared.Fault.the-variants.{Length, Element}
 use Rattle.answer.specs.Refusals.{firstOf}
-use Rattle.elements.specs.declared.Scope.the-variants.{Thread}
 use Rattle.elements.specs.declared.Usage.{Usage}
 use Rattle.elements.specs.declared.Usage.the-variants.{ThreadGet, ThreadSet, RunInput}
-use Rattle.elements.specs.declared.Context.{Context}
 use Rattle.elements.specs.Table.{kindOf, position}
-use Rattle.elements.specs.Rules.{permits, sizeFits, isSetting, goodValue}
+use Rattle.elements.specs.Rules.{sizeFits, goodValue}
 use Rattle.elements.proofs.Rules.{value-get, value-run}
 use Rattle.gsb.specs.declared.Walked.{Walked}
 use Rattle.gsb.specs.declared.Walked.the-variants.{Done, Stopped}
-use Rattle.gsb.specs.Walk.{countOf, badLength, firstBad}
-use Rattle.gsb.specs.Message.{elementBytes, elementsBytes, message}
+use Rattle.gsb.specs.Walk.{countOf, firstBad}
 use Rattle.gsb.proofs.RoundTrip.{begins-self, wire-one, firstPlace, one-bad-length, one-element}
 use Rattle.store.specs.declared.Layout.{Layout}
-use Rattle.store.specs.Layout.{Sound, slotAt}
+use Rattle.store.specs.Layout.{Sound}
 use Rattle.transfer.specs.Transfer.{applied, filled}
 use Rattle.transfer.proofs.Messages.{place-cons, place-nil, applied-message, thread-numbered, filled-value-one}
 use Rattle.exits.specs.Exits.{elementOf}
-use Rattle.l0.specs.Refusals.{Outcome, accept, refuse, decide, bit0, hasBit0}
-use Rattle.l0.specs.State.{targetTests, baseOf, contextOf, isStopped, faultOf, bufferTests, setState, fillWith, getState}
+use Rattle.admission.specs.Refusals.{accept, refuse, decide, bit0}
+use Rattle.admission.specs.Target.{targetTests, baseOf}
+use Rattle.state.specs.State.{contextOf, isStopped, faultOf, bufferTests, setState, fillWith, getState}
 use Rattle.promises.proofs.States.{skip}
 use Rattle.l1.specs.Cache.{allowed, isInput, isReadable, isSpecial, first, one, valueIn}
-use Rattle.l1.specs.Plain.{plainTests, writePlain, readPlain}
-use Rattle.l1.proofs.Cells.{Named, element-size, element-place, named-end, named-fits, allowed-as, set-as-input, get-as-readable, input-named, readable-named, valueOf}
+use Rattle.l1.specs.Plain.{writePlain, readPlain}
+use Rattle.l1.proofs.Cells.{element-size, element-place, named-end, named-fits, allowed-as, set-as-input, get-as-readable, input-named, readable-named, valueOf}
 use Rattle.l1.proofs.Ours.{base, Ours, ours-base, ours-room, ours-target}
 
 -- what a thread set takes beside the special ones has no value rule

@@ -1,37 +1,35 @@
 -- A value in the cache: the tests of it, its place, and a write, in the form of the code's needs. Assumes nothing.
-use mathlib.Core.Path.{_≡_, refl, sym, ap, ap₂, _∙_, subst}
-use mathlib.Core.Bool.{Bool, true, false, not, _&&_, _||_, cond}
+use mathlib.Core.Path.{_≡_, refl, sym, ap, ap₂, _∙_}
+use mathlib.Core.Bool.{Bool, true, false, not, cond}
 use mathlib.Core.Logic.{_⊎_, inl, inr}
-use mathlib.Core.List.{List, [], _∷_}
+use mathlib.Core.List.{List}
 use Prim.Native.Nat.{ℕ, _+_, _^_, _≤_, _<_}
 use native.Mathlib.Omega.{arith}
 use lib.Dec.{eqb, ltb}
 use lib.ListN.{length}
 use borrow.Author.Tests.{eq-eqb, ne-eqb, eqb-true, eqb-false, lt-ltb, le-ltb, not-true, not-false}
 use Rattle.octets.specs.Bytes.{bytesAt, put}
-use Rattle.octets.proofs.Bytes.{whole, length-put}
+use Rattle.octets.proofs.Bytes.{whole}
 use Rattle.answer.specs.declared.Bad.the-variants.{Id, Size}
 use Rattle.answer.specs.declared.Fault.{Fault}
 use Rattle.answer.specs.declared.Fault.the-variants.{Length, Element, Cache as CacheBad}
 use Rattle.answer.specs.declared.Answer.{Answer}
-use Rattle.answer.specs.Refusals.{firstOf}
 use Rattle.elements.specs.declared.Scope.the-variants.{Thread}
 use Rattle.elements.specs.declared.Usage.{Usage}
 use Rattle.elements.specs.declared.Usage.the-variants.{ThreadGet, RunInput}
 use Rattle.elements.specs.declared.Entry.{Entry}
-use Rattle.elements.specs.declared.Kind.{Kind}
-use Rattle.elements.specs.declared.Kind.the-variants.{Unlisted, Nop, Listed}
+use Rattle.elements.specs.declared.Kind.the-variants.{Nop, Listed}
 use Rattle.elements.specs.declared.Element.{Element as Thing}
-use Rattle.elements.specs.Table.{table, below, position, kindOf, numberOf, numbered, threadElement}
-use Rattle.elements.specs.Rules.{permits, allows}
+use Rattle.elements.specs.Table.{table, position, kindOf, numberOf, numbered, threadElement}
+use Rattle.elements.specs.Rules.{allows}
 use Rattle.elements.proofs.Table.{table-right, past, nop-zero, number-lt, number-mono, Numbered, element-number, position-end, thread-stored, size-bound}
 use Rattle.elements.proofs.Rules.{scopeFor, permits-cases, allows-scope}
 use Rattle.exits.specs.Exits.{elementOf}
 use Rattle.store.proofs.Search.{both, no-bool}
-use Rattle.l0.specs.declared.Admission.{Admission}
-use Rattle.l0.specs.declared.Admission.the-variants.{Admitted, Refused}
-use Rattle.l0.specs.Refusals.{success, refusal, judgement}
-use Rattle.l0.proofs.Judging.{Passed, judged-passed, all-refused, all-admitted}
+use Rattle.admission.specs.declared.Admission.{Admission}
+use Rattle.admission.specs.declared.Admission.the-variants.{Admitted, Refused}
+use Rattle.admission.specs.Refusals.{success, refusal, judgement}
+use Rattle.admission.proofs.Judging.{Passed, judged-passed, all-refused, all-admitted}
 use Rattle.l1.specs.Cache.{Cache, withMark, allowed, isInput, isReadable, isSpecial, goodCache, first, Wrote, change, writeCache, keep}
 use Rattle.l1.specs.Private.{elementTests, elementGood}
 use Rattle.l1.proofs.Marking.{values-long, marks-long}

@@ -1,21 +1,21 @@
 -- Marks by words: the first mark that is left in a word is its leading zeros, and a word's marks are counted by its ones. Assumes nothing.
 use mathlib.Core.Path.{_≡_, refl, sym, ap, ap₂, _∙_, subst}
-use mathlib.Core.Bool.{Bool, true, false, cond}
+use mathlib.Core.Bool.{Bool, false, cond}
 use mathlib.Core.Logic.{_⊎_, inl, inr}
 use mathlib.Core.List.{List}
 use Prim.Native.Nat.{ℕ, zero, suc, _+_, _-_, _*_, _/_, _%_, _^_, _≤_, _<_}
-use native.Mathlib.Nat.{mod-lt, mod-eq-of-lt, div-eq-of-lt, eq-zero-or-pos, pow-suc, div-one}
-use native.Mathlib.Numerals.{add-one, one-add}
+use native.Mathlib.Nat.{mod-lt, div-eq-of-lt, eq-zero-or-pos, pow-suc, div-one}
+use native.Mathlib.Numerals.{add-one}
 use native.Mathlib.Decide.{decLt}
 use native.Mathlib.Omega.{arith}
 use lib.Dec.{eqb, lit<}
-use lib.Pow.{pow-pos, pow-lt, pow-mono, high, field, mod-mod-pow, ones-split, ones-lt, shr-lt, shr-shr, shr-mono}
+use lib.Pow.{pow-pos, pow-mono, high, field, mod-mod-pow, ones-split, ones-lt, shr-lt, shr-shr}
 use lib.Bits.{bitAnd, and-mask}
 use lib.Count.{leadingZeros, leading-le, leading-top, ones, ones-step, ones-le}
-use lib.ListN.{length, getD}
-use borrow.Author.Tests.{eq-eqb, ne-eqb}
+use lib.ListN.{getD}
+use borrow.Author.Tests.{eq-eqb}
 use Rattle.store.specs.Search.{first, tally}
-use Rattle.store.proofs.Search.{Found, first-bounds, found-first, tally-ext}
+use Rattle.store.proofs.Search.{first-bounds, found-first, tally-ext}
 use Rattle.l1.specs.Cache.{isMarked}
 use Rattle.l1.specs.Private.{isChanged}
 

@@ -2,15 +2,15 @@
 -- Assumes nothing.
 use mathlib.Core.Path.{_≡_, refl, sym, ap, ap₂, _∙_, subst}
 use mathlib.Core.Logic.{_≢_}
-use mathlib.Core.Bool.{Bool, true, false, cond}
+use mathlib.Core.Bool.{Bool, true, cond}
 use mathlib.Core.List.{List, [], _∷_, _++_, append-nil}
 use Prim.Native.Nat.{ℕ, zero, suc, _+_, _≤_, _<_}
-use native.Mathlib.Decide.{ℕ-discrete, decLt}
+use native.Mathlib.Decide.{ℕ-discrete}
 use native.Mathlib.Omega.{arith}
 use lib.Dec.{eqb}
 use lib.ListN.{length, length-append}
 use borrow.Author.Tests.{eq-eqb, ne-eqb}
-use Rattle.octets.specs.Bytes.{bytesAt, put}
+use Rattle.octets.specs.Bytes.{put}
 use Rattle.octets.proofs.Bytes.{Clear, length-put, put-put, put-comm}
 use Rattle.elements.specs.Table.{numberOf, threadElement}
 use Rattle.gsb.specs.Message.{elementBytes, elementsBytes}
@@ -18,7 +18,7 @@ use Rattle.gsb.proofs.Messages.{length-element, elements-append}
 use Rattle.exits.specs.Exits.{elementOf}
 use Rattle.l1.specs.Cache.{isInput}
 use Rattle.l1.specs.Agree.{newest, inOrder}
-use Rattle.l1.proofs.Cells.{Named, number-named, number-back, named-number, named-back, input-named, places-apart, valueOf, value-same, value-other, weight}
+use Rattle.l1.proofs.Cells.{Named, number-back, named-number, named-back, input-named, places-apart, valueOf, value-other, weight}
 
 -- each names an element that a run input takes, with a value of its size
 abbrev pub Fit : List (ℕ × List ℕ) → Type 0

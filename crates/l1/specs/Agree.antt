@@ -1,7 +1,7 @@
--- Demand 3: for every list of operations, the L1 with the cache and the plain L1 agree. The theorem is `cache-agrees`.
+-- 01, "The L1 cache", demand 3: for every list of operations, the L1 with the cache and the plain L1 agree. The theorem is `cache-agrees`.
 use Prim.Native.Nat.{ℕ, zero, suc, _^_, _≤_, _<_}
 use mathlib.Core.Path.{_≡_}
-use mathlib.Core.Bool.{Bool, true, false, cond}
+use mathlib.Core.Bool.{true, false, cond}
 use mathlib.Core.List.{List, [], _∷_, _++_}
 use lib.Dec.{eqb}
 use lib.ListN.{length}
@@ -17,8 +17,8 @@ use Rattle.store.specs.declared.Layout.{Layout}
 use Rattle.store.specs.Layout.{slotBytes}
 use Rattle.store.specs.Header.{header, slotOf}
 use Rattle.store.specs.Store.{wellFormed}
-use Rattle.l0.specs.State.{baseOf}
-use Rattle.l0.specs.Run.{inputSize, outputSize}
+use Rattle.admission.specs.Target.{baseOf}
+use Rattle.run.specs.Run.{inputSize, outputSize}
 use Rattle.l0.specs.Calls.{Call, outcome}
 use Rattle.promises.specs.History.{registers}
 use Rattle.promises.specs.Apart.{Elsewhere}
@@ -136,6 +136,7 @@ Allowed guest (Other c ∷ os) = Elsewhere guest c × Allowed guest os
 
 -- "For a live vCPU with both run buffers registered (the input with at least 2,424 bytes) and an empty L1 cache"
 pub record Start (l : Layout) (guest vcpu : ℕ) (s : List ℕ) (c : Cache) : Type 0 where
+  -- "Live: a used slot word names the vCPU." The words of a store that is not well formed name nothing.
   pub formed : wellFormed l s ≡ true
   pub live : slotOf l (header l s) guest vcpu < l .slots
   pub input : goodInput (inputSize s (baseOf l s false guest vcpu)) ≡ true

@@ -17,7 +17,6 @@ use Rattle.answer.specs.Answer.{told}
 use Rattle.answer.specs.Refusals.{firstOf}
 use Rattle.elements.specs.declared.Usage.{Usage}
 use Rattle.elements.specs.declared.Usage.the-variants.{ThreadGet, RunInput}
-use Rattle.elements.specs.declared.Context.{Context}
 use Rattle.elements.specs.Table.{kindOf, numberOf, threadElement}
 use Rattle.elements.specs.Rules.{between, permits}
 use Rattle.gsb.specs.Walk.{countOf, idAt, offsetAt}
@@ -27,9 +26,9 @@ use Rattle.store.specs.Layout.{slotBytes}
 use Rattle.store.specs.Search.{every}
 use Rattle.transfer.specs.Transfer.{applied}
 use Rattle.exits.specs.Exits.{elementOf, valued}
-use Rattle.l0.specs.Refusals.{Outcome, success, refusal}
-use Rattle.l0.specs.State.{getState}
-use Rattle.l0.specs.Run.{spotTests, exitTests, runVcpu}
+use Rattle.admission.specs.Refusals.{Outcome, success, refusal}
+use Rattle.state.specs.State.{getState}
+use Rattle.run.specs.Run.{cachedTests, runVcpu}
 
 -- "1,820 value bytes", laid out as a slot's, "and six lent 64-bit words: three of valid marks, three of changed marks"
 pub record Cache : Type 0 where
@@ -71,7 +70,7 @@ markGood c e = cond (ltb e 170) (not (changed c e) || (valid c e && isInput (thr
 unfoldable pub goodCache : Cache → Bool
 goodCache c = eqb (length (c .values)) slotBytes && (eqb (length (c .marks)) 6 && every (markGood c) 192 0)
 
--- ---- "Write: 15; 5 for a value over 65,528 bytes; 6; 7. It stores the value, valid and changed." "Place is 0."
+-- ---- "Write: 15; 5 for a value over 65,528 bytes; 6 ..; 7. It stores the value, valid and changed." "Place is 0."
 abbrev pub first : Place
 first = record { index = 0; offset = 0 }
 
@@ -92,7 +91,7 @@ writeCache c id v =
     ((not (goodCache c), CacheBad) ∷ valueTests (isInput id) id v)
     (record { answer = success 0; cache = change c id v })
 
--- ---- "Read into a lent value buffer: 15, 5, 6, 7; then a valid element comes from the cache, else from get state with that answer,
+-- ---- "Read into a lent value buffer: 15, 5, 6 .., 7; then a valid element comes from the cache, else from get state with that answer,
 -- and after 0 is stored as valid."
 pub record Got : Type 0 where
   pub answer : Answer
@@ -156,6 +155,5 @@ ranWith c input o = record { answer = o .answer; store = o .store; cache = refre
 unfoldable pub runCache : Layout → List ℕ → Cache → ℕ → ℕ → ℕ → List ℕ → List ℕ → List ℕ → ℕ → Ran
 runCache l s c flags guest vcpu input output effect exit =
     firstOf (λ f. record { answer = refusal f; store = s; cache = c; input = input; output = output })
-    ((not (goodCache c), CacheBad)
-    ∷ spotTests l s flags guest vcpu (length (message (pending c))) (length input) (length output) ++ exitTests l s effect exit)
+    ((not (goodCache c), CacheBad) ∷ cachedTests l s flags guest vcpu (length (message (pending c))) (length input) (length output) effect exit)
     (ranWith c (put input 0 (message (pending c))) (runVcpu l s flags guest vcpu (put input 0 (message (pending c))) output effect exit))

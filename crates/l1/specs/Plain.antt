@@ -9,9 +9,9 @@ use Rattle.answer.specs.declared.Bad.the-variants.{Id}
 use Rattle.answer.specs.declared.Fault.{Fault}
 use Rattle.answer.specs.declared.Fault.the-variants.{Length, Element}
 use Rattle.store.specs.declared.Layout.{Layout}
-use Rattle.l0.specs.Refusals.{Outcome, decide}
-use Rattle.l0.specs.State.{getState, setState}
-use Rattle.l0.specs.Run.{runVcpu}
+use Rattle.admission.specs.Refusals.{Outcome, decide}
+use Rattle.state.specs.State.{getState, setState}
+use Rattle.run.specs.Run.{runVcpu}
 use Rattle.l1.specs.Cache.{isSpecial, first, one}
 
 -- "Write and read: 5 over 65,528 bytes; 6 for the NOP, 0x0C00 and 0x0C01;"

@@ -8,9 +8,9 @@ use Rattle.answer.specs.declared.Fault.{Fault}
 use Rattle.answer.specs.declared.Fault.the-variants.{Cache as CacheBad}
 use Rattle.elements.specs.Table.{numberOf}
 use Rattle.exits.specs.Exits.{elementOf}
-use Rattle.l0.specs.declared.Admission.{Admission}
-use Rattle.l0.specs.Refusals.{success, judgement}
-use Rattle.l0.specs.State.{gotElement}
+use Rattle.admission.specs.declared.Admission.{Admission}
+use Rattle.admission.specs.Refusals.{success, judgement}
+use Rattle.state.specs.State.{gotElement}
 use Rattle.l1.specs.Cache.{Cache, isMarked, valid, goodCache, valueTests, Got, fetched}
 
 -- 15, 5, 6 and 7 of a write or a read

@@ -2,10 +2,10 @@
 use super::marks::is_input;
 use super::value::change_value;
 use super::value::judge_element;
+use admission::Admission;
 use answer::Answer;
 use answer::refusal;
 use answer::success;
-use l0::Admission;
 ghost use mathlib.Core.Path.{_≡_};
 ghost use Rattle.l1.specs.Cache.{Wrote, writeCache};
 

@@ -1,13 +1,13 @@
 // What a write and a read of one element share: its tests, and its place in the cache.
 use super::marks::good_cache;
 use super::marks::set_mark;
+use admission::Admission;
 use answer::Bad;
 use answer::Fault;
 use answer::Place;
 use elements::Element;
 use elements::number_of;
 use elements::thread_element;
-use l0::Admission;
 use octets::copy;
 ghost use mathlib.Core.Path.{_≡_};
 ghost use Prim.Native.Nat.{_<_};

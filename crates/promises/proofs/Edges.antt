@@ -15,10 +15,11 @@ use Rattle.store.specs.Layout.{small, slotBytes, slotAt}
 use Rattle.store.specs.Search.{every, first}
 use Rattle.store.specs.Header.{header, capabilitiesOf, live, word, wordOf, isUsed, guestOf, holds, lacks, alone, slotGood, headGood, wordsGood, slotHolding, slotOf, freeSlot, isDead, freeGuest}
 use Rattle.store.specs.Store.{wellFormed, fresh, putLive, putWord, withGuest, withVcpu}
-use Rattle.l0.specs.Refusals.{decide}
+use Rattle.admission.specs.Refusals.{decide}
 use Rattle.exits.specs.Exits.{exits, isAmong}
-use Rattle.l0.specs.State.{baseOf, getState, setState}
-use Rattle.l0.specs.Run.{ran, runVcpu}
+use Rattle.admission.specs.Target.{baseOf}
+use Rattle.state.specs.State.{getState, setState}
+use Rattle.run.specs.Run.{ran, runVcpu}
 use Rattle.l0.specs.Calls.{createGuest, createVcpu, guestClock, CreateVcpu, outcome, after}
 use Rattle.promises.specs.History.{registers}
 use Rattle.promises.specs.Edges.{agrees, element, counted, one, ready, twoSlots, r3, r4, registered, goodThenBad, zerosBefore, placed, readAfter, edgesOf, starred}

@@ -1,21 +1,19 @@
 -- THEOREMS of the written rules: `refused-unchanged`, `well-formed-kept`, and that create takes the lowest free id or slot and finds
 -- again what delete freed. Assumes nothing.
-use mathlib.Core.Path.{_≡_, refl, sym, ap, ap₂, _∙_, subst}
-use mathlib.Core.Logic.{_≢_}
+use mathlib.Core.Path.{_≡_, refl, ap₂, _∙_}
 use mathlib.Core.Bool.{Bool, true, false, not, _&&_, cond}
 use mathlib.Core.List.{List, [], _∷_}
-use Prim.Native.Nat.{ℕ, zero, suc, _+_, _-_, _*_, _/_, _^_, _≤_, _<_}
+use Prim.Native.Nat.{ℕ, zero, suc, _+_, _≤_}
 use native.Mathlib.Omega.{arith}
-use lib.Dec.{eqb, ltb}
-use borrow.Author.Tests.{eqb-true, ltb-true, ltb-false, not-true, not-false}
+use lib.Dec.{eqb}
+use borrow.Author.Tests.{eqb-true, ltb-true, ltb-false, not-false}
 use Rattle.answer.specs.declared.Fault.{Fault}
 use Rattle.answer.specs.declared.Fault.the-variants.{None}
-use Rattle.answer.specs.Refusals.{firstOf}
 use Rattle.store.specs.declared.Layout.{Layout}
-use Rattle.store.specs.Layout.{Sound, small, guestAt, slotAt}
-use Rattle.store.specs.Header.{header, outside, offered, live, holds, slotOf, freeSlot, isDead, freeGuest, word, slotHolding, headGood, wordsGood}
+use Rattle.store.specs.Layout.{Sound, small}
+use Rattle.store.specs.Header.{header, live, isDead, freeGuest, headGood, wordsGood}
 use Rattle.store.specs.Store.{wellFormed, fresh, withoutGuest, withoutGuests}
-use Rattle.store.proofs.Search.{no-bool, first-bounds, Found, first-found}
+use Rattle.store.proofs.Search.{first-bounds}
 use Rattle.store.proofs.Kept.{guest-kept, vcpu-kept, delete-kept, delete-all-kept, caps-kept}
 use Rattle.store.proofs.Small.{sound-small, fresh-good}
 use Rattle.store.proofs.Frame.{header-values}
@@ -27,21 +25,17 @@ use Rattle.elements.specs.Table.{kindOf}
 use Rattle.gsb.specs.Walk.{countOf, idAt, offsetAt}
 use Rattle.transfer.specs.Transfer.{valueAt, putFrom, putAs, applied}
 use Rattle.transfer.proofs.Moving.{length-applied}
-use Rattle.l0.specs.Refusals.{Outcome, accept, refuse, decide, hasBit0}
+use Rattle.admission.specs.Refusals.{Outcome, accept, refuse, decide, hasBit0}
 use Rattle.l0.specs.Calls.{freshStore, getCapabilities, setCapabilities, createGuest, createVcpu, deleteGuest, guestClock, Call, GetCapabilities, SetCapabilities, CreateGuest, CreateVcpu, GetState, SetState, RunVcpu, DeleteGuest, GuestClock, outcome, after}
-use Rattle.l0.specs.State.{baseOf, getState, setState}
-use Rattle.l0.specs.Run.{inputOf, runVcpu, ran, ranStore}
-use Rattle.l0.proofs.Judging.{Passed}
+use Rattle.admission.specs.Target.{baseOf}
+use Rattle.state.specs.State.{getState, setState}
+use Rattle.run.specs.Run.{inputOf, runVcpu, ran, ranStore}
+use Rattle.admission.proofs.Judging.{Passed, each-way}
 
--- P of a call: P of each refusal, and of what it does where no test holds
+-- P of a call, from each refusal and from what it does where no test holds
 pub decided : (P : Outcome → Type 0) (s b : List ℕ) (tests : List (Bool × Fault)) (o : Outcome) → ((f : Fault) → P (refuse s b f)) → (Passed tests → P o) → P (decide s b tests o)
 unfolding decide
-decided P s b [] o r g = g tt
-decided P s b (x ∷ xs) o r g = go (x .0) refl (decided P s b xs o r)
-  where
-    go : (t : Bool) → x .0 ≡ t → ((Passed xs → P o) → P (firstOf (refuse s b) xs o)) → P (cond t (refuse s b (x .1)) (firstOf (refuse s b) xs o))
-    go true e ih = r (x .1)
-    go false e ih = ih (λ p. g (e, p))
+decided P s b tests o r g = each-way P (refuse s b) tests o r g
 
 -- ---- a refusal changes nothing
 pub record Unchanged (s b : List ℕ) (o : Outcome) : Type 0 where

@@ -4,9 +4,8 @@ use mathlib.Core.Path.{_≡_, refl, sym, ap, _∙_}
 use mathlib.Core.Logic.{_≢_}
 use mathlib.Core.Bool.{Bool, true, false, not, cond}
 use mathlib.Core.List.{List, [], _∷_}
-use Prim.Native.Nat.{ℕ, _+_, _≤_, _<_}
+use Prim.Native.Nat.{ℕ, _≤_, _<_}
 use native.Mathlib.Omega.{arith}
-use lib.Dec.{eqb}
 use borrow.Author.Tests.{eq-eqb, eqb-true, eqb-false, ltb-true, ltb-false, not-true, not-false}
 use Rattle.answer.specs.declared.Fault.{Fault}
 use Rattle.answer.specs.declared.Fault.the-variants.{None, Store, Flag, Guest, Token, Vcpu, Room, Exists}
@@ -18,9 +17,9 @@ use Rattle.store.specs.Store.{wellFormed, withoutGuest}
 use Rattle.store.proofs.Search.{first-found, first-bounds, first-le}
 use Rattle.store.proofs.Tests.{live-parts}
 use Rattle.store.proofs.Kept.{deleted-live, deleted-slot}
-use Rattle.l0.specs.Refusals.{Outcome, accept, refuse, decide}
+use Rattle.admission.specs.Refusals.{Outcome, refuse, decide}
 use Rattle.l0.specs.Calls.{createGuest, createVcpu}
-use Rattle.l0.proofs.Judging.{Passed}
+use Rattle.admission.proofs.Judging.{Passed}
 
 -- no test that holds has success for its fault
 abbrev pub Real : List (Bool × Fault) → Type 0

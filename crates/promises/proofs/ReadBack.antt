@@ -3,29 +3,28 @@ use mathlib.Core.Path.{_≡_, refl, sym, ap, ap₂, _∙_, subst}
 use mathlib.Core.Logic.{_≢_}
 use mathlib.Core.Bool.{Bool, true, false, cond}
 use mathlib.Core.List.{List, [], _++_}
-use Prim.Native.Nat.{ℕ, suc, _+_, _≤_, _<_}
+use Prim.Native.Nat.{ℕ, _+_, _≤_}
 use native.Mathlib.Omega.{arith}
 use lib.ListN.{length}
-use Rattle.octets.specs.Bytes.{bytesAt, put, be}
-use Rattle.octets.proofs.Bytes.{right, length-put, length-bytesAt, read-back}
+use Rattle.octets.specs.Bytes.{bytesAt, put}
+use Rattle.octets.proofs.Bytes.{right, length-bytesAt, read-back}
 use Rattle.octets.proofs.Numbers.{be-other}
-use Rattle.answer.specs.declared.Fault.{Fault}
-use Rattle.answer.specs.declared.Fault.the-variants.{None, Length, Element}
+use Rattle.answer.specs.declared.Fault.the-variants.{None, Length}
 use Rattle.elements.specs.declared.Source.{Source}
 use Rattle.elements.specs.declared.Source.the-variants.{Stored}
 use Rattle.elements.specs.declared.Usage.{Usage}
-use Rattle.elements.specs.declared.Usage.the-variants.{GuestGet, GuestSet, ThreadGet, ThreadSet}
+use Rattle.elements.specs.declared.Usage.the-variants.{GuestSet, ThreadSet}
 use Rattle.elements.specs.declared.Entry.{Entry}
 use Rattle.elements.specs.declared.Kind.{Kind}
 use Rattle.elements.specs.declared.Kind.the-variants.{Unlisted, Nop, Listed}
 use Rattle.elements.specs.declared.Context.{Context}
 use Rattle.elements.specs.Table.{kindOf, position}
-use Rattle.elements.specs.Rules.{permits, sizeFits, isSetting}
-use Rattle.elements.proofs.Table.{nop-zero, listed-stored, bytesOf}
-use Rattle.elements.proofs.Rules.{permits-listed, setting-stored, size-fits, scopeFor}
+use Rattle.elements.specs.Rules.{permits, isSetting}
+use Rattle.elements.proofs.Table.{nop-zero, listed-stored}
+use Rattle.elements.proofs.Rules.{permits-listed, setting-stored, size-fits}
 use Rattle.gsb.specs.declared.Walked.{Walked}
 use Rattle.gsb.specs.declared.Walked.the-variants.{Done, Stopped}
-use Rattle.gsb.specs.Walk.{countOf, idAt, sizeAt, nextAt, offsetAt, firstBad}
+use Rattle.gsb.specs.Walk.{countOf, idAt, sizeAt, offsetAt, firstBad}
 use Rattle.gsb.proofs.Judged.{GoodElement, good-element}
 use Rattle.gsb.proofs.First.{accepted-exactly}
 use Rattle.gsb.proofs.Walks.{offset-start}
@@ -33,14 +32,15 @@ use Rattle.store.specs.declared.Layout.{Layout}
 use Rattle.store.specs.Layout.{Sound, guestAt, slotAt}
 use Rattle.store.specs.Header.{header, slotOf}
 use Rattle.store.proofs.Frame.{header-values}
-use Rattle.transfer.specs.Transfer.{valueAt, putFrom, putAs, applied, readFrom, fillAs, filled, Moves, AllReady}
+use Rattle.transfer.specs.Transfer.{valueAt, putFrom, putAs, applied, readFrom, fillAs, filled, AllReady}
 use Rattle.transfer.proofs.Moving.{moves-fits, fits-stored}
-use Rattle.l0.specs.Refusals.{Outcome, accept, decide, bit0, hasBit0}
-use Rattle.l0.specs.State.{targetTests, baseOf, contextOf, isStopped, faultOf, bufferTests, setUse, setState, getUse, fillWith, getState}
-use Rattle.l0.proofs.Judging.{Passed}
+use Rattle.admission.specs.Refusals.{Outcome, accept, bit0, hasBit0}
+use Rattle.admission.specs.Target.{targetTests, baseOf}
+use Rattle.state.specs.State.{contextOf, isStopped, faultOf, bufferTests, setUse, setState, getUse, fillWith, getState}
+use Rattle.admission.proofs.Judging.{Passed}
 use Rattle.promises.proofs.Kept.{base-values}
 use Rattle.promises.proofs.Lowest.{Real, accepted, no-store, no-flag, no-guest, no-vcpu}
-use Rattle.promises.proofs.States.{walked, all-ready, set-room, get-room}
+use Rattle.promises.proofs.States.{walked, all-ready, set-room}
 
 no-length : Length ≡ None → ⊥
 no-length e = let z : _≡_ {A = ℕ} 0 1 = cc in omega arith

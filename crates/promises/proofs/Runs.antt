@@ -1,13 +1,13 @@
 -- THEOREMS of run vCPU: `run-refused-exactly`, `effect-refused-exactly`, and that a run changes only what its input and its effect
 -- name, and the first bytes of the output. Assumes nothing.
-use mathlib.Core.Path.{_≡_, refl, sym, ap, ap₂, _∙_, subst}
+use mathlib.Core.Path.{_≡_, refl, sym, ap, ap₂, _∙_}
 use mathlib.Core.Logic.{_↔_}
 use mathlib.Core.Bool.{Bool, true, false, not, cond}
-use mathlib.Core.List.{List, [], _∷_, _++_}
-use Prim.Native.Nat.{ℕ, _+_, _≤_, _<_}
+use mathlib.Core.List.{List}
+use Prim.Native.Nat.{ℕ, _+_, _≤_}
 use native.Mathlib.Omega.{arith}
 use lib.ListN.{length, getD}
-use Rattle.octets.specs.Bytes.{bytesAt, put}
+use Rattle.octets.specs.Bytes.{bytesAt}
 use Rattle.octets.proofs.Bytes.{Clear, left, getD-put-other}
 use Rattle.answer.specs.declared.Answer.{Answer}
 use Rattle.answer.specs.declared.Bad.{Bad}
@@ -27,11 +27,12 @@ use Rattle.transfer.proofs.Moving.{length-applied}
 use Rattle.transfer.proofs.Named.{Named, applied-frame, beside}
 use Rattle.exits.specs.Exits.{known, returned, rowBytes, outputOf}
 use Rattle.exits.proofs.Rows.{length-output}
-use Rattle.l0.specs.Refusals.{Outcome, success, refusal, refuse, decide}
-use Rattle.l0.specs.State.{baseOf, contextOf, isStopped, faultOf}
-use Rattle.l0.specs.Run.{effectFault, exitTests, spotTests, inputOf, contentTests, runTests, ranStore, ran, runVcpu}
-use Rattle.l0.proofs.Judging.{Passed}
-use Rattle.l0.proofs.Runs.{stopped-not, spotted}
+use Rattle.admission.specs.Refusals.{Outcome, refusal, refuse, decide}
+use Rattle.admission.specs.Target.{baseOf}
+use Rattle.state.specs.State.{contextOf, isStopped, faultOf}
+use Rattle.run.specs.Run.{effectFault, exitTests, spotTests, inputOf, contentTests, runTests, ranStore, ran, runVcpu}
+use Rattle.admission.proofs.Judging.{Passed}
+use Rattle.run.proofs.Runs.{stopped-not, spotted}
 use Rattle.promises.proofs.Kept.{decided}
 use Rattle.promises.proofs.States.{skip}
 

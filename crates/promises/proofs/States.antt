@@ -4,23 +4,22 @@ use mathlib.Core.Path.{_≡_, refl, sym, ap, ap₂, _∙_, subst}
 use mathlib.Core.Logic.{_↔_, _≢_}
 use mathlib.Core.Bool.{Bool, true, false, not, _&&_, cond}
 use mathlib.Core.List.{List, [], _∷_, _++_}
-use Prim.Native.Nat.{ℕ, zero, suc, _+_, _-_, _*_, _≤_, _<_}
+use Prim.Native.Nat.{ℕ, _+_, _≤_, _<_}
 use native.Mathlib.Decide.{decLt}
 use native.Mathlib.Omega.{arith}
-use lib.Dec.{eqb, leb}
+use lib.Dec.{leb}
 use lib.ListN.{length, getD}
-use borrow.Author.Tests.{eqb-true, ltb-true, leb-false, not-false}
-use Rattle.octets.specs.Bytes.{bytesAt, put}
+use borrow.Author.Tests.{leb-false, not-false}
+use Rattle.octets.specs.Bytes.{bytesAt}
 use Rattle.octets.proofs.Bytes.{Clear, left, right}
 use Rattle.answer.specs.declared.Answer.{Answer}
 use Rattle.answer.specs.declared.Bad.{Bad}
 use Rattle.answer.specs.declared.Place.{Place}
 use Rattle.answer.specs.declared.Fault.{Fault}
-use Rattle.answer.specs.declared.Fault.the-variants.{None, Length, Element}
+use Rattle.answer.specs.declared.Fault.the-variants.{None, Element}
 use Rattle.answer.specs.Refusals.{firstOf}
 use Rattle.elements.specs.declared.Usage.{Usage}
-use Rattle.elements.specs.declared.Usage.the-variants.{GuestGet, GuestSet, ThreadGet, ThreadSet, RunInput, Effect}
-use Rattle.elements.specs.declared.Context.{Context}
+use Rattle.elements.specs.declared.Usage.the-variants.{GuestGet, GuestSet, ThreadGet, ThreadSet}
 use Rattle.elements.proofs.Table.{bytesOf}
 use Rattle.elements.proofs.Rules.{scopeFor}
 use Rattle.gsb.specs.declared.Walked.{Walked}
@@ -30,16 +29,17 @@ use Rattle.gsb.proofs.First.{FirstFrom, refused-exactly}
 use Rattle.gsb.proofs.Lookups.{long-enough}
 use Rattle.store.specs.declared.Layout.{Layout}
 use Rattle.store.specs.Layout.{Sound, guestBytes, slotBytes, guestAt, slotAt}
-use Rattle.store.specs.Header.{header, live, slotOf}
+use Rattle.store.specs.Header.{header, slotOf}
 use Rattle.store.specs.Store.{wellFormed}
 use Rattle.store.proofs.Frame.{formed}
 use Rattle.store.proofs.Tests.{live-parts}
-use Rattle.transfer.specs.Transfer.{applied, filled, AllReady}
+use Rattle.transfer.specs.Transfer.{applied, AllReady}
 use Rattle.transfer.proofs.Accepted.{ready-all}
 use Rattle.transfer.proofs.Named.{Named, ValueByte, applied-frame, filled-frame, beside}
-use Rattle.l0.specs.Refusals.{Outcome, success, refusal, accept, refuse, decide, bit0, hasBit0}
-use Rattle.l0.specs.State.{targetTests, baseOf, contextOf, isStopped, faultOf, bufferTests, setUse, setState, getUse, fillWith, getState}
-use Rattle.l0.proofs.Judging.{Passed}
+use Rattle.admission.specs.Refusals.{Outcome, success, refusal, accept, refuse, decide, bit0, hasBit0}
+use Rattle.admission.specs.Target.{targetTests, baseOf}
+use Rattle.state.specs.State.{contextOf, isStopped, faultOf, bufferTests, setUse, setState, getUse, fillWith, getState}
+use Rattle.admission.proofs.Judging.{Passed}
 use Rattle.promises.proofs.Kept.{decided}
 
 -- tests that failed may be left out

@@ -4,7 +4,7 @@ use mathlib.Core.Path.{_≡_, refl, sym, ap, _∙_}
 use mathlib.Core.Logic.{_≢_}
 use mathlib.Core.Bool.{Bool, true, false, not, _&&_, _||_, cond}
 use mathlib.Core.List.{List, [], _∷_}
-use Prim.Native.Nat.{ℕ, zero, suc, _+_, _-_, _*_, _≤_, _<_}
+use Prim.Native.Nat.{ℕ, _+_, _-_, _*_, _≤_, _<_}
 use native.Mathlib.Omega.{arith}
 use native.Mathlib.Decide.{ℕ-discrete}
 use lib.Dec.{eqb, leb}
@@ -18,13 +18,8 @@ use Rattle.answer.specs.declared.Call.{Call as Name}
 use Rattle.answer.specs.declared.Fault.{Fault}
 use Rattle.answer.specs.declared.Fault.the-variants.{None, Store, Flag, Guest, Token, Capability, Vcpu, Length, Element, Room, Exists, Unregistered, Short, Exit, Effect, Cache}
 use Rattle.answer.specs.Answer.{badNumber, told}
-use Rattle.elements.specs.declared.Source.{Source}
-use Rattle.elements.specs.declared.Source.the-variants.{Fixed, Stored}
-use Rattle.elements.specs.declared.Kind.{Kind}
-use Rattle.elements.specs.declared.Kind.the-variants.{Unlisted, Nop, Listed}
-use Rattle.elements.specs.Table.{kindOf}
-use Rattle.gsb.specs.Walk.{countOf, idAt, offsetAt}
-use Rattle.transfer.specs.Transfer.{valueAt, putFrom, putAs, applied}
+use Rattle.gsb.specs.Walk.{countOf}
+use Rattle.transfer.specs.Transfer.{applied}
 use Rattle.store.specs.declared.Layout.{Layout}
 use Rattle.store.specs.Layout.{Sound, small, guestAt, slotAt, guestBytes, slotBytes}
 use Rattle.store.specs.Search.{tally}
@@ -36,9 +31,10 @@ use Rattle.store.proofs.Fields.{word-same, word-other, word-live}
 use Rattle.store.proofs.Frame.{header-full, header-values, header-caps, header-word, header-live, formed}
 use Rattle.store.proofs.Kept.{words-are, caps-word, guests-gone, deleted-slot, deleted-other}
 use Rattle.store.proofs.Small.{sound-small, fresh-good}
-use Rattle.l0.specs.Refusals.{Outcome, refuse, hasBit0}
-use Rattle.l0.specs.State.{baseOf, getState, setState}
-use Rattle.l0.specs.Run.{inputOf, ranStore, ran, runVcpu}
+use Rattle.admission.specs.Refusals.{Outcome, refuse, hasBit0}
+use Rattle.admission.specs.Target.{baseOf}
+use Rattle.state.specs.State.{getState, setState}
+use Rattle.run.specs.Run.{inputOf, ranStore, ran, runVcpu}
 use Rattle.l0.specs.Calls.{getCapabilities, setCapabilities, createGuest, createVcpu, deleteGuest, guestClock, Call, GetCapabilities, SetCapabilities, CreateGuest, CreateVcpu, GetState, SetState, RunVcpu, DeleteGuest, GuestClock, outcome, after}
 use Rattle.promises.specs.History.{nameOf, registers, isAccepted, creates, isDropped, drops, created, dropped, freeSlots}
 use Rattle.promises.proofs.Kept.{decided, refused-unchanged, applied-header, base-values, well-formed-kept}

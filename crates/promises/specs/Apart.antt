@@ -4,8 +4,7 @@ use Prim.Native.Nat.{ℕ}
 use mathlib.Core.Path.{_≡_}
 use mathlib.Core.Logic.{_≢_}
 use mathlib.Core.Bool.{false}
-use mathlib.Core.List.{List}
-use Rattle.l0.specs.Refusals.{hasBit0}
+use Rattle.admission.specs.Refusals.{hasBit0}
 use Rattle.l0.specs.Calls.{Call, GetCapabilities, SetCapabilities, CreateGuest, CreateVcpu, GetState, SetState, RunVcpu, DeleteGuest, GuestClock}
 
 -- the vCPU is one of guest g; set capabilities is not listed

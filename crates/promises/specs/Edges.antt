@@ -10,7 +10,7 @@ use Rattle.elements.specs.Table.{position}
 use Rattle.store.specs.Layout.{small, slotBytes, slotAt}
 use Rattle.store.specs.Header.{header, word, wordOf}
 use Rattle.store.specs.Store.{fresh}
-use Rattle.l0.specs.Refusals.{bit0}
+use Rattle.admission.specs.Refusals.{bit0}
 use Rattle.l0.specs.Calls.{Call, CreateGuest, CreateVcpu, GetState, SetState, RunVcpu, GuestClock, outcome, after}
 use Rattle.promises.specs.History.{registers}
 

@@ -10,7 +10,7 @@ use Rattle.answer.specs.Answer.{told}
 use Rattle.store.specs.declared.Layout.{Layout}
 use Rattle.store.specs.Search.{tally}
 use Rattle.store.specs.Header.{header, word, isUsed, guestOf, holds}
-use Rattle.l0.specs.Refusals.{hasBit0}
+use Rattle.admission.specs.Refusals.{hasBit0}
 use Rattle.l0.specs.Calls.{Call, GetCapabilities, SetCapabilities, CreateGuest, CreateVcpu, GetState, SetState, RunVcpu, DeleteGuest, GuestClock, outcome}
 
 -- the call's name in the table of answers

@@ -9,6 +9,7 @@ use lib.Dec.{ltb}
 use lib.ListN.{length}
 use Rattle.octets.specs.Bytes.{put}
 
+-- the codes of the n characters from i on
 abbrev pub codes : ℕ → ℕ → String → List ℕ
 codes zero i s = []
 codes (suc n) i s = code (charAt s i) ∷ codes n (i + 1) s

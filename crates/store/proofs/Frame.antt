@@ -1,19 +1,18 @@
 -- The header of a store after each write: a field is written in the header too, a value leaves it as it was. Assumes nothing.
-use mathlib.Core.Path.{_≡_, refl, sym, ap, _∙_}
-use mathlib.Core.Bool.{Bool, true, false, _&&_}
+use mathlib.Core.Path.{_≡_}
+use mathlib.Core.Bool.{true, _&&_}
 use mathlib.Core.List.{List}
-use Prim.Native.Nat.{ℕ, _+_, _-_, _*_, _≤_, _<_}
+use Prim.Native.Nat.{ℕ, _+_, _≤_, _<_}
 use native.Mathlib.Omega.{arith}
 use lib.Dec.{eqb}
 use lib.ListN.{length}
 use borrow.Author.Tests.{eq-eqb, eqb-true}
-use Rattle.octets.specs.Bytes.{bytesAt, put, digits}
-use Rattle.octets.specs.Bits.{putBits}
+use Rattle.octets.specs.Bytes.{put, digits}
 use Rattle.octets.proofs.Bytes.{right, length-put, length-bytesAt, read-other, put-inside}
 use Rattle.octets.proofs.Numbers.{length-digits}
-use Rattle.octets.proofs.Bits.{front-putBits, length-putBits}
+use Rattle.octets.proofs.Bits.{front-putBits}
 use Rattle.store.specs.declared.Layout.{Layout}
-use Rattle.store.specs.Layout.{Sound, guestAt, slotAt}
+use Rattle.store.specs.Layout.{Sound}
 use Rattle.store.specs.Header.{header, wordAt, headGood, wordsGood}
 use Rattle.store.specs.Store.{wellFormed, putCapabilities, putLive, putWord}
 use Rattle.store.proofs.Search.{both}

@@ -1,30 +1,30 @@
 -- THEOREM `well-formed-kept`, for what create, delete and set capabilities make of a store. Assumes nothing.
-use mathlib.Core.Path.{_≡_, refl, sym, ap, ap₂, _∙_, subst}
+use mathlib.Core.Path.{_≡_, refl, sym, ap, _∙_, subst}
 use mathlib.Core.Logic.{_≢_}
 use mathlib.Core.Bool.{Bool, true, false, not, _&&_, cond}
 use mathlib.Core.List.{List}
-use Prim.Native.Nat.{ℕ, zero, suc, _+_, _-_, _*_, _/_, _%_, _^_, _≤_, _<_}
+use Prim.Native.Nat.{ℕ, zero, suc, _+_, _-_, _*_, _%_, _^_, _≤_, _<_}
 use native.Mathlib.Omega.{arith}
 use native.Mathlib.Nat.{not-suc-le-zero}
 use native.Mathlib.Decide.{ℕ-discrete}
 use lib.Bits.{and-mod}
-use lib.Dec.{eqb, leb, ltb}
+use lib.Dec.{eqb, leb}
 use lib.ListN.{length}
 use borrow.Author.Tests.{eq-eqb, ne-eqb, le-leb, lt-ltb, leb-true, eqb-true, eqb-false}
-use Rattle.octets.specs.Bytes.{bytesAt, be, put, digits, zeros}
+use Rattle.octets.specs.Bytes.{digits, zeros}
 use Rattle.octets.specs.Bits.{bit, bits}
-use Rattle.octets.proofs.Bytes.{left, right, length-put}
+use Rattle.octets.proofs.Bytes.{left, length-put}
 use Rattle.octets.proofs.Numbers.{be-digits, length-digits}
 use Rattle.octets.proofs.Bits.{length-putBits, bits-beside, bits-one}
 use Rattle.store.specs.declared.Layout.{Layout}
 use Rattle.store.specs.Layout.{Sound, guestBytes, slotBytes, guestAt, slotAt}
-use Rattle.store.specs.Search.{every, first}
-use Rattle.store.specs.Header.{header, outside, offered, capabilitiesOf, live, wordAt, word, wordOf, isUsed, guestOf, holds, lacks, alone, slotGood, headGood, wordsGood, slotHolding, slotOf, freeSlot, isDead, freeGuest}
+use Rattle.store.specs.Search.{first}
+use Rattle.store.specs.Header.{header, outside, offered, capabilitiesOf, live, wordAt, word, wordOf, isUsed, guestOf, holds, lacks, alone, slotGood, headGood, wordsGood, slotHolding, slotOf, freeSlot}
 use Rattle.store.specs.Store.{wellFormed, putCapabilities, putLive, putWord, withGuest, withVcpu, dropWord, dropWords, withoutGuest, noWords, noGuests, withoutGuests}
-use Rattle.store.proofs.Search.{no-bool, both, every-all, every-at, Found, first-found, found-first, first-none}
+use Rattle.store.proofs.Search.{no-bool, both, every-all, every-at, first-none}
 use Rattle.store.proofs.Tests.{live-parts}
-use Rattle.store.proofs.Fields.{length-word, word-same, word-other, live-same, head-same, length-live, word-live, head-live, live-here, live-else}
-use Rattle.store.proofs.Frame.{header-full, header-values, header-caps, header-word, header-live, Formed, formed, well-formed, formed-values}
+use Rattle.store.proofs.Fields.{word-same, word-other, live-same, head-same, word-live, head-live, live-here, live-else}
+use Rattle.store.proofs.Frame.{header-full, header-caps, header-word, header-live, Formed, formed, well-formed, formed-values}
 
 -- ---- the words as facts
 pub record Words (l : Layout) (h : List ℕ) : Type 0 where

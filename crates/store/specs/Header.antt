@@ -1,7 +1,7 @@
 -- 01, "The store": what stands before the values. Every test of a store but its length is one of its header, so that a write into
 -- values changes none of them.
-use Prim.Native.Nat.{ℕ, zero, suc, _+_, _-_, _*_, _/_, _^_}
-use mathlib.Core.Bool.{Bool, true, false, not, _&&_, cond}
+use Prim.Native.Nat.{ℕ, _+_, _-_, _*_, _/_, _^_}
+use mathlib.Core.Bool.{Bool, true, not, _&&_, cond}
 use mathlib.Core.List.{List}
 use lib.Dec.{leb, ltb, eqb}
 use lib.Bits.{bitAnd}
@@ -74,7 +74,7 @@ wordsGood l h = every (slotGood l h) (l .slots) 0
 unfoldable pub slotHolding : Layout → List ℕ → ℕ → ℕ
 slotHolding l h w = first (holds l h w) (l .slots) 0
 
--- 01, "Answers", 4: "vCPU id above 2047, or absent"; then this is the number of slots
+-- 01, "Answers", 4: "vCPU id above 2047, or (not when creating) absent"; then this is the number of slots
 unfoldable pub slotOf : Layout → List ℕ → ℕ → ℕ → ℕ
 slotOf l h g v = cond (live l h g && ltb v 2048) (slotHolding l h (wordOf l g v)) (l .slots)
 

@@ -10,8 +10,8 @@ guestBytes = 52
 abbrev pub slotBytes : ℕ
 slotBytes = 1820
 
--- "29,578 bytes. Bytes 0-7 the agreed capabilities; byte 8 the live guests 1 to 8; byte 9 zero; from byte 10 sixteen slot words of
--- 16 bits: used (1 bit), guest id (4), vCPU id (11). From 42, 52 bytes per guest. From 458, 1,820 bytes per slot."
+-- "29,578 bytes .. Bytes 0-7 the agreed capabilities; byte 8 the live guests 1 to 8 ..; byte 9 zero; from byte 10 sixteen slot words
+-- of 16 bits: used (1 bit), guest id (4), vCPU id (11). From 42, 52 bytes per guest .. From 458, 1,820 bytes per slot"
 -- `ids` is how many guest ids a slot word can name.
 abbrev pub small : Layout
 small = record { guests = 8; zeros = 8; slots = 16; ids = 16; width = 16; «words_at» = 10; «guests_at» = 42; «slots_at» = 458; size = 29578 }

@@ -7,7 +7,7 @@ use Rattle.store.specs.declared.Layout.{Layout}
 use Rattle.store.specs.Search.{tally}
 use Rattle.store.specs.Header.{live, word, isUsed, guestOf, holds}
 
--- how many slots hold what slot a holds
+-- how many slots hold the word w
 abbrev pub timesOf : Layout → List ℕ → ℕ → ℕ
 timesOf l h w = tally (holds l h w) (l .slots)
 

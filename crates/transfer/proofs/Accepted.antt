@@ -18,7 +18,7 @@ use Rattle.elements.specs.Rules.{permits, sizeFits}
 use Rattle.elements.proofs.Table.{entry-rule, listed-stored, listed-fixed, bytesOf, position-end}
 use Rattle.elements.proofs.Rules.{size-listed, permits-scope, scopeFor}
 use Rattle.gsb.specs.declared.Walked.the-variants.{Done}
-use Rattle.gsb.specs.Walk.{countOf, idAt, sizeAt, offsetAt, judged, firstBad}
+use Rattle.gsb.specs.Walk.{countOf, idAt, sizeAt, offsetAt, firstBad}
 use Rattle.gsb.proofs.Judged.{good-element}
 use Rattle.gsb.proofs.First.{accepted-exactly}
 use Rattle.transfer.specs.Transfer.{Fits, Moves, Ready, AllReady}

@@ -2,14 +2,13 @@
 -- those after it is as it was. Nothing else opens `filled`. Assumes nothing.
 use mathlib.Core.Path.{_≡_, refl, sym, ap, ap₂, _∙_, subst}
 use mathlib.Core.List.{List}
-use Prim.Native.Nat.{ℕ, zero, suc, _+_, _-_, _≤_, _<_}
+use Prim.Native.Nat.{ℕ, zero, suc, _+_, _≤_, _<_}
 use native.Mathlib.Numerals.{add-one}
 use native.Mathlib.Omega.{arith}
 use lib.ListN.{length, getD}
-use Rattle.octets.specs.Bytes.{put, be}
+use Rattle.octets.specs.Bytes.{be}
 use Rattle.octets.proofs.Bytes.{left, getD-put-other}
 use Rattle.octets.proofs.Numbers.{be-ext}
-use Rattle.elements.specs.declared.Entry.{Entry}
 use Rattle.elements.specs.declared.Kind.{Kind}
 use Rattle.elements.specs.declared.Kind.the-variants.{Unlisted, Nop, Listed}
 use Rattle.elements.specs.Table.{kindOf}

@@ -1,10 +1,9 @@
 -- THEOREM `only-named`, of the values: a byte changes only if it belongs to an element that is named. Assumes nothing.
-use mathlib.Core.Path.{_≡_, refl, sym, ap, ap₂, _∙_, subst}
-use mathlib.Core.Bool.{Bool, true, false}
+use mathlib.Core.Path.{_≡_, refl, sym, ap, _∙_}
+use mathlib.Core.Bool.{true}
 use mathlib.Core.List.{List}
 use Prim.Native.Nat.{ℕ, zero, suc, _+_, _≤_, _<_}
 use native.Mathlib.Decide.{decLt}
-use native.Mathlib.Numerals.{add-one}
 use native.Mathlib.Omega.{arith}
 use lib.ListN.{length, getD}
 use lib.Seq.{ext-getD}
@@ -16,7 +15,7 @@ use Rattle.elements.specs.declared.Entry.{Entry}
 use Rattle.elements.specs.declared.Kind.{Kind}
 use Rattle.elements.specs.declared.Kind.the-variants.{Unlisted, Nop, Listed}
 use Rattle.elements.specs.declared.Context.{Context}
-use Rattle.elements.specs.Table.{kindOf, position}
+use Rattle.elements.specs.Table.{kindOf}
 use Rattle.elements.specs.Rules.{permits, sizeFits}
 use Rattle.elements.proofs.Table.{bytesOf, position-end, source-stored}
 use Rattle.elements.proofs.Rules.{size-listed, permits-scope, scopeFor}
@@ -24,7 +23,6 @@ use Rattle.gsb.specs.declared.Walked.the-variants.{Done}
 use Rattle.gsb.specs.Walk.{countOf, idAt, sizeAt, nextAt, offsetAt, firstBad}
 use Rattle.gsb.proofs.Judged.{GoodElement, good-element}
 use Rattle.gsb.proofs.First.{accepted-exactly}
-use Rattle.gsb.proofs.Walks.{offset-next}
 use Rattle.transfer.specs.Transfer.{valueAt, putFrom, putAs, applied, readFrom, fillAs, filled, Moves, AllReady}
 use Rattle.transfer.proofs.Moving.{length-read, length-applied}
 

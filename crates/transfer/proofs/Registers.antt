@@ -13,7 +13,7 @@ use Rattle.elements.specs.Rules.{between}
 use Rattle.elements.specs.Private.{threadKind}
 use Rattle.elements.proofs.Find.{kind-register, kind-word, kind-vector}
 use Rattle.gsb.specs.Walk.{idAt, nextAt}
-use Rattle.gsb.proofs.Quick.{between-low, between-high}
+use Rattle.elements.proofs.Rules.{between-low, between-high}
 use Rattle.transfer.specs.Transfer.{valueAt, putAs, fillAs, Ready}
 use Rattle.transfer.proofs.Moving.{register-fits, register-stored, register-filled}
 
@@ -28,8 +28,8 @@ module _ (b : List ℕ) (at base len id : ℕ) (r : Bool) (i : id ≡ idAt b at)
     (y : Ready base b at len) where
   double-kind : threadKind 8 (cond (eqb id 0x103A) Write ReadWrite) (40 + 8 * (id - 0x1000)) ≡ kindOf id
   double-kind =
-      let low : 0x1000 ≤ id = within-low _ _ _ r w t in
-      let high : id ≤ 0x1053 = within-high _ _ _ r w t in
+      let low : 0x1000 ≤ id = within-low 0x1000 0x1053 id r w t in
+      let high : id ≤ 0x1053 = within-high 0x1000 0x1053 id r w t in
       kind-register id _ _ refl refl low (omega arith)
 
   double-fits : (base + (40 + 8 * (id - 0x1000)) + 8 ≤ len) × (at + 4 + 8 ≤ length b) × (at + 4 + 8 ≡ nextAt b at)
@@ -55,8 +55,8 @@ module _ (b : List ℕ) (at base len id : ℕ) (r : Bool) (i : id ≡ idAt b at)
     (y : Ready base b at len) where
   vector-kind : threadKind 16 ReadWrite (772 + 16 * (id - 0x3000)) ≡ kindOf id
   vector-kind =
-      let low : 0x3000 ≤ id = within-low _ _ _ r w t in
-      let high : id ≤ 0x303F = within-high _ _ _ r w t in
+      let low : 0x3000 ≤ id = within-low 0x3000 0x303F id r w t in
+      let high : id ≤ 0x303F = within-high 0x3000 0x303F id r w t in
       kind-vector id low (omega arith)
 
   vector-fits : (base + (772 + 16 * (id - 0x3000)) + 16 ≤ len) × (at + 4 + 16 ≤ length b) × (at + 4 + 16 ≡ nextAt b at)
@@ -82,8 +82,8 @@ module _ (b : List ℕ) (at base len id : ℕ) (r : Bool) (i : id ≡ idAt b at)
     (y : Ready base b at len) where
   word-kind : threadKind 4 ReadWrite (712 + 4 * (id - 0x2000)) ≡ kindOf id
   word-kind =
-      let low : 0x2000 ≤ id = within-low _ _ _ r w t in
-      let high : id ≤ 0x200E = within-high _ _ _ r w t in
+      let low : 0x2000 ≤ id = within-low 0x2000 0x200E id r w t in
+      let high : id ≤ 0x200E = within-high 0x2000 0x200E id r w t in
       kind-word id low (omega arith)
 
   word-fits : (base + (712 + 4 * (id - 0x2000)) + 4 ≤ len) × (at + 4 + 4 ≤ length b) × (at + 4 + 4 ≡ nextAt b at)

@@ -13,7 +13,7 @@ ghost use Prim.Native.Nat.{_+_, _≤_};
 ghost use lib.ListN.{length};
 ghost use Rattle.octets.specs.Bytes.{bytesAt, put};
 ghost use Rattle.elements.specs.Table.{kindOf};
-ghost use Rattle.gsb.specs.Walk.{countOf, idAt, sizeAt, nextAt};
+ghost use Rattle.gsb.specs.Walk.{countOf, idAt, nextAt};
 ghost use Rattle.transfer.specs.Transfer.{valueAt, putFrom, putAs, applied, readFrom, fillAs, filled, Fits, Moves, Ready, AllReady};
 
 fn put_from(source: Source, store: &mut [u8], base: usize, b: &[u8], from: usize, size: usize)

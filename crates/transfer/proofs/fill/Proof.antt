@@ -3,10 +3,9 @@ use Rattle.gsb.specs.Walk.{offsetAt}
 use Rattle.gsb.proofs.Walks.{offset-start}
 use Rattle.transfer.specs.Transfer.{filled}
 use Rattle.transfer.proofs.Filling.{fill-ready, fill-next, fill-turn, fill-start, fill-end}
-use Prim.Native.Nat.{ℕ, _+_, _-_, _*_, _≤_, _<_, _^_, _/_, _%_}
+use Prim.Native.Nat.{_-_, _≤_}
 use lib.ListN.{length}
-use mathlib.Core.Path.{_≡_, refl, sym, ap, _∙_}
-use native.Mathlib.Omega.{arith}
+use mathlib.Core.Path.{_≡_, refl}
 use borrow.Author.Needs.{needs}
 use Rattle.transfer.proofs.fill.Statement.{statement}
 use Rattle.transfer.proofs.fill.Tie as tie

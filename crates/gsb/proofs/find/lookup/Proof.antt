@@ -1,12 +1,11 @@
 -- The invariant is the walk that is left and the last match so far: the laws of Lookups.
 use native.Mathlib.Omega.{arith}
 use borrow.Author.Needs.{needs}
-use mathlib.Core.Path.{_≡_, refl, sym, ap, _∙_}
-use mathlib.Core.Bool.{false}
-use Prim.Native.Nat.{ℕ, _+_, _-_, _≤_, _<_}
+use mathlib.Core.Path.{_≡_, ap, _∙_}
+use Prim.Native.Nat.{ℕ, _-_, _≤_}
 use lib.ListN.{length}
 use Rattle.gsb.specs.declared.Found.{Found}
-use Rattle.gsb.specs.Walk.{offsetAt, badLength, walk}
+use Rattle.gsb.specs.Walk.{offsetAt, walk}
 use Rattle.gsb.specs.Lookup.{framed, lastWith, Inside}
 use Rattle.gsb.proofs.Walks.{turn-good, offset-start, offset-next}
 use Rattle.gsb.proofs.Lookups.{long-enough, framed-inside, last-more, last-inside, last-none, looked-length, looked-cut, looked-part}

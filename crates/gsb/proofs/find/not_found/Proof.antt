@@ -1,7 +1,6 @@
 -- By what `refusal` gives.
 use mathlib.Core.Path.{ap}
 use Rattle.answer.specs.declared.Answer.{Answer}
-use Rattle.gsb.specs.declared.Found.{Found}
 use borrow.Author.Needs.{needs}
 use Rattle.gsb.proofs.find.not_found.Statement.{statement}
 use Rattle.gsb.proofs.find.not_found.Tie as tie

@@ -2,7 +2,7 @@
 use Rattle.gsb.proofs.Walks.{turn-good, turn-bad, turn-end, first-start}
 use Rattle.gsb.proofs.Judged.{good-inside}
 use Rattle.gsb.specs.Walk.{judged, walk, firstBad}
-use Prim.Native.Nat.{ℕ, _+_, _-_, _≤_, _<_}
+use Prim.Native.Nat.{_-_, _≤_}
 use lib.ListN.{length}
 use mathlib.Core.Path.{_≡_}
 use borrow.Author.Needs.{needs}

@@ -1,6 +1,6 @@
 -- By how far the tests came: the laws `set-..` of Answers.
 use Rattle.store.proofs.Small.{small-sound}
-use Rattle.l0.proofs.FirstTests.{past-long}
+use Rattle.admission.proofs.FirstTests.{past-long}
 use Rattle.l0.proofs.Answers.{set-refused, set-other, set-stored}
 use borrow.Author.Needs.{needs}
 use Rattle.l0.proofs.capabilities.set_capabilities.Statement.{statement}

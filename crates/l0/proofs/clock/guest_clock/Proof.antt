@@ -1,7 +1,7 @@
 -- By how far the tests came: the laws `clock-..` of Answers.
 use native.Mathlib.Omega.{arith}
 use Rattle.store.proofs.Small.{small-sound}
-use Rattle.l0.proofs.FirstTests.{good-long, live-few, live-some}
+use Rattle.admission.proofs.FirstTests.{good-long, live-few, live-some}
 use Rattle.l0.proofs.Answers.{clock-store, clock-dead, clock-told}
 use borrow.Author.Needs.{needs}
 use Rattle.l0.proofs.clock.guest_clock.Statement.{statement}

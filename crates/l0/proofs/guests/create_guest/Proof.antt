@@ -1,6 +1,6 @@
 -- By how far the tests came: the laws `guest-..` of Answers.
 use Rattle.store.proofs.Small.{small-sound}
-use Rattle.l0.proofs.FirstTests.{past-long}
+use Rattle.admission.proofs.FirstTests.{past-long}
 use Rattle.l0.proofs.Answers.{guest-refused, guest-token, guest-full, guest-made}
 use borrow.Author.Needs.{needs}
 use Rattle.l0.proofs.guests.create_guest.Statement.{statement}

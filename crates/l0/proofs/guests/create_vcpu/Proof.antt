@@ -1,6 +1,6 @@
 -- By how far the tests came: the laws `vcpu-..` of Answers; the last take their facts by path, since search stops at that many.
 use Rattle.store.proofs.Small.{small-sound}
-use Rattle.l0.proofs.FirstTests.{past-long, live-few}
+use Rattle.admission.proofs.FirstTests.{past-long, live-few}
 use Rattle.l0.proofs.Answers.{vcpu-refused, vcpu-dead, vcpu-high, vcpu-there, vcpu-full, vcpu-made}
 use borrow.Author.Needs.{needs}
 use Rattle.l0.proofs.guests.create_vcpu.Statement.{statement}

@@ -1,6 +1,6 @@
 -- By how far the tests came: the laws `delete-..` of Answers.
 use Rattle.store.proofs.Small.{small-sound}
-use Rattle.l0.proofs.FirstTests.{past-long, live-few, live-some}
+use Rattle.admission.proofs.FirstTests.{past-long, live-few, live-some}
 use Rattle.l0.proofs.Answers.{delete-refused, delete-all, delete-dead, delete-one}
 use borrow.Author.Needs.{needs}
 use Rattle.l0.proofs.guests.delete_guest.Statement.{statement}

@@ -1,7 +1,7 @@
 -- By the tests.
 use Rattle.l1.proofs.Values.{admitted-values, admitted-marks, admitted-size, admitted-readable}
 use Rattle.l1.proofs.Reading.{read-bad, read-good}
-use Rattle.l0.specs.declared.Admission.the-variants.{Admitted}
+use Rattle.admission.specs.declared.Admission.the-variants.{Admitted}
 use mathlib.Core.Path.{_≡_}
 use borrow.Author.Needs.{needs}
 use Rattle.l1.proofs.cache_read.read.Statement.{statement}

@@ -5,7 +5,6 @@ use Rattle.store.specs.Search.{first}
 use Rattle.l1.specs.Cache.{isMarked, chosen}
 use Rattle.l1.specs.Private.{isChanged}
 use Prim.Native.Nat.{_+_, _-_, _≤_}
-use lib.ListN.{length}
 use mathlib.Core.Path.{_≡_}
 use borrow.Author.Needs.{needs}
 use Rattle.l1.proofs.input.bytes_needed.Statement.{statement}

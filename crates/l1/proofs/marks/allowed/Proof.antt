@@ -1,9 +1,6 @@
 -- What a use permits, with no capability.
 use Rattle.l1.proofs.Marking.{allowed-as}
-use Prim.Native.Nat.{ℕ, _+_, _-_, _*_, _≤_, _<_, _^_, _/_, _%_}
-use lib.ListN.{length}
 use Rattle.l1.proofs.Marking.{allowed-as}
-use native.Mathlib.Omega.{arith}
 use borrow.Author.Needs.{needs}
 use Rattle.l1.proofs.marks.allowed.Statement.{statement}
 use Rattle.l1.proofs.marks.allowed.Tie as tie

@@ -2,10 +2,9 @@
 use Rattle.l1.proofs.Marking.{good-values, good-marks, good-start, good-bad, good-turn, good-end}
 use Rattle.store.specs.Search.{every}
 use Rattle.l1.specs.Cache.{markGood, goodCache}
-use Prim.Native.Nat.{ℕ, _+_, _-_, _*_, _≤_, _<_, _^_, _/_, _%_}
+use Prim.Native.Nat.{_-_, _≤_}
 use lib.ListN.{length}
-use mathlib.Core.Path.{_≡_, refl, sym, ap, _∙_}
-use native.Mathlib.Omega.{arith}
+use mathlib.Core.Path.{_≡_}
 use borrow.Author.Needs.{needs}
 use Rattle.l1.proofs.marks.good_cache.Statement.{statement}
 use Rattle.l1.proofs.marks.good_cache.Tie as tie

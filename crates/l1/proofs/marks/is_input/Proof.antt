@@ -1,9 +1,5 @@
 -- The NOP, then what a run input permits.
 use Rattle.l1.proofs.Marking.{input-nop, input-as}
-use Prim.Native.Nat.{ℕ, _+_, _-_, _*_, _≤_, _<_, _^_, _/_, _%_}
-use lib.ListN.{length}
-use mathlib.Core.Path.{_≡_, refl, sym, ap, _∙_}
-use native.Mathlib.Omega.{arith}
 use borrow.Author.Needs.{needs}
 use Rattle.l1.proofs.marks.is_input.Statement.{statement}
 use Rattle.l1.proofs.marks.is_input.Tie as tie

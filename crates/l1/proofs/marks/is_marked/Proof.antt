@@ -1,10 +1,7 @@
 -- By the definition.
 use Rattle.l1.specs.Cache.{isMarked}
 use mathlib.Core.Path.{refl}
-use Prim.Native.Nat.{ℕ, _+_, _-_, _*_, _≤_, _<_, _^_, _/_, _%_}
-use lib.ListN.{length}
-use mathlib.Core.Path.{_≡_, refl, sym, ap, _∙_}
-use native.Mathlib.Omega.{arith}
+use mathlib.Core.Path.{refl}
 use borrow.Author.Needs.{needs}
 use Rattle.l1.proofs.marks.is_marked.Statement.{statement}
 use Rattle.l1.proofs.marks.is_marked.Tie as tie

@@ -1,9 +1,5 @@
 -- The three that are never read, then what a thread get permits.
 use Rattle.l1.proofs.Marking.{readable-nop, readable-input, readable-output, readable-as}
-use Prim.Native.Nat.{ℕ, _+_, _-_, _*_, _≤_, _<_, _^_, _/_, _%_}
-use lib.ListN.{length}
-use mathlib.Core.Path.{_≡_, refl, sym, ap, _∙_}
-use native.Mathlib.Omega.{arith}
 use borrow.Author.Needs.{needs}
 use Rattle.l1.proofs.marks.is_readable.Statement.{statement}
 use Rattle.l1.proofs.marks.is_readable.Tie as tie

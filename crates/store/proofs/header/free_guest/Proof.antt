@@ -2,10 +2,8 @@
 use Rattle.store.specs.Search.{first}
 use Rattle.store.specs.Header.{header, isDead, freeGuest}
 use Rattle.store.proofs.Loops.{free-start, free-hit, free-miss, free-end}
-use Prim.Native.Nat.{ℕ, _+_, _-_, _*_, _≤_, _<_, _^_, _/_, _%_}
-use lib.ListN.{length}
-use mathlib.Core.Path.{_≡_, refl, sym, ap, _∙_}
-use native.Mathlib.Omega.{arith}
+use Prim.Native.Nat.{_+_, _-_, _≤_}
+use mathlib.Core.Path.{_≡_}
 use borrow.Author.Needs.{needs}
 use Rattle.store.proofs.header.free_guest.Statement.{statement}
 use Rattle.store.proofs.header.free_guest.Tie as tie

@@ -1,5 +1,5 @@
 -- Two bytes are the word's sixteen bits: `word-read`.
-use Rattle.store.proofs.Readings.{word-read, word-inside}
+use Rattle.store.proofs.Readings.{word-read}
 use borrow.Author.Needs.{needs}
 use Rattle.store.proofs.header.slot_word.Statement.{statement}
 use Rattle.store.proofs.header.slot_word.Tie as tie

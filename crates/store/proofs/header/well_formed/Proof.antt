@@ -1,8 +1,4 @@
 -- Each return is a law of `wellFormed`.
-use Prim.Native.Nat.{ℕ, _+_, _-_, _*_, _≤_, _<_, _^_, _/_, _%_}
-use lib.ListN.{length}
-use mathlib.Core.Path.{_≡_, refl, sym, ap, _∙_}
-use native.Mathlib.Omega.{arith}
 use borrow.Author.Needs.{needs}
 use Rattle.store.proofs.Tests.{wf-long, wf-head, wf-words}
 use Rattle.store.proofs.header.well_formed.Statement.{statement}

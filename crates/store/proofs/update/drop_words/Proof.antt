@@ -1,10 +1,9 @@
 -- The loop has dropped the words of the slots before a.
 use Rattle.store.specs.Store.{dropWords}
 use Rattle.store.proofs.Writes.{drop-start, drop-turn, drop-end}
-use Prim.Native.Nat.{ℕ, _+_, _-_, _*_, _≤_, _<_, _^_, _/_, _%_}
+use Prim.Native.Nat.{_-_, _≤_}
 use lib.ListN.{length}
-use mathlib.Core.Path.{_≡_, refl, sym, ap, _∙_}
-use native.Mathlib.Omega.{arith}
+use mathlib.Core.Path.{_≡_, refl}
 use borrow.Author.Needs.{needs}
 use Rattle.store.proofs.update.drop_words.Statement.{statement}
 use Rattle.store.proofs.update.drop_words.Tie as tie

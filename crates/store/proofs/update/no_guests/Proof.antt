@@ -1,10 +1,9 @@
 -- The loop has cleared the live bits of g guests.
 use Rattle.store.specs.Store.{noGuests}
 use Rattle.store.proofs.Writes.{guests-none, guests-more, guests-all}
-use Prim.Native.Nat.{ℕ, _+_, _-_, _*_, _≤_, _<_, _^_, _/_, _%_}
+use Prim.Native.Nat.{_-_, _≤_}
 use lib.ListN.{length}
-use mathlib.Core.Path.{_≡_, refl, sym, ap, _∙_}
-use native.Mathlib.Omega.{arith}
+use mathlib.Core.Path.{_≡_, refl}
 use borrow.Author.Needs.{needs}
 use Rattle.store.proofs.update.no_guests.Statement.{statement}
 use Rattle.store.proofs.update.no_guests.Tie as tie

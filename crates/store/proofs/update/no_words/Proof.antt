@@ -1,10 +1,9 @@
 -- The loop has cleared the words of the slots before a.
 use Rattle.store.specs.Store.{noWords}
 use Rattle.store.proofs.Writes.{words-none, words-more, words-all}
-use Prim.Native.Nat.{ℕ, _+_, _-_, _*_, _≤_, _<_, _^_, _/_, _%_}
+use Prim.Native.Nat.{_-_, _≤_}
 use lib.ListN.{length}
-use mathlib.Core.Path.{_≡_, refl, sym, ap, _∙_}
-use native.Mathlib.Omega.{arith}
+use mathlib.Core.Path.{_≡_, refl}
 use borrow.Author.Needs.{needs}
 use Rattle.store.proofs.update.no_words.Statement.{statement}
 use Rattle.store.proofs.update.no_words.Tie as tie

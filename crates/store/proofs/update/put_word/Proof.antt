@@ -1,6 +1,5 @@
 -- Sixteen bits are two bytes: `word-put`.
 use Rattle.store.proofs.Writes.{word-fits}
-use native.Mathlib.Omega.{arith}
 use Rattle.store.proofs.Writes.{word-put}
 use borrow.Author.Needs.{needs}
 use Rattle.store.proofs.update.put_word.Statement.{statement}

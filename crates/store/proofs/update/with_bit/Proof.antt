@@ -1,6 +1,5 @@
 -- The three parts of a byte make it: `bit-is`.
 use native.Mathlib.Omega.{arith}
-use mathlib.Core.Path.{_∙_}
 use Rattle.store.proofs.Writes.{bit-low, bit-is, bit-fits}
 use borrow.Author.Needs.{needs}
 use Rattle.store.proofs.update.with_bit.Statement.{statement}

@@ -1,8 +1,4 @@
 -- The words, then the live bits: `all-deleted`.
-use Prim.Native.Nat.{ℕ, _+_, _-_, _*_, _≤_, _<_, _^_, _/_, _%_}
-use lib.ListN.{length}
-use mathlib.Core.Path.{_≡_, refl, sym, ap, _∙_}
-use native.Mathlib.Omega.{arith}
 use Rattle.store.proofs.Writes.{all-deleted}
 use borrow.Author.Needs.{needs}
 use Rattle.store.proofs.update.without_guests.Statement.{statement}

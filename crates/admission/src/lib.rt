@@ -1,0 +1,100 @@
+// The tests that the calls begin with, before a buffer is looked at: the store, the flags, the guest and the vCPU.
+// Apart from the calls, since all of them share it.
+use answer::Fault;
+use store::Layout;
+use store::guest_at;
+use store::is_live;
+use store::slot_at;
+use store::slot_of;
+use store::small_layout;
+use store::well_formed;
+ghost use mathlib.Core.Path.{_≡_};
+ghost use Prim.Native.Nat.{_<_};
+ghost use lib.ListN.{length};
+ghost use Rattle.store.specs.Layout.{Sound, small};
+ghost use Rattle.store.specs.Header.{outside};
+ghost use Rattle.admission.specs.Refusals.{admission};
+ghost use Rattle.admission.specs.Target.{targetOf, Held};
+
+// Past the first tests of a call, or refused by one.
+pub enum Admission {
+    Admitted,
+    Refused(Fault),
+}
+
+// What a call works on: where the values of a guest or of a vCPU start; or a refusal by the tests before.
+pub enum Target {
+    Turned(Fault),
+    At(usize),
+}
+
+// The bits of x that are not among the supported ones.
+pub fn other_bits(supported: u64, x: u64) -> u64
+    ensures { λ r. ⌜ r ≡ outside supported x ⌝ }
+{
+    x & !supported
+}
+
+// 1 and 2, with which every call with flags begins.
+pub fn admit(store: &[u8], l: Layout, supported: u64, flags: u64) -> Admission
+    requires { ⌜ Sound l ⌝ }
+    ensures { λ r. ⌜ r ≡ admission l (now (store .entry)) supported flags ⌝ }
+{
+    if !well_formed(store, l) {
+        return Admission::Refused(Fault::Store);
+    }
+    let bad = other_bits(supported, flags);
+    if bad != 0 {
+        return Admission::Refused(Fault::Flag(u64::leading_zeros(bad) as u64));
+    }
+    Admission::Admitted
+}
+
+// The tests 1 to 4, and where the values of the guest or the vCPU start.
+pub fn target_of(
+    store: &[u8],
+    l: Layout,
+    supported: u64,
+    flags: u64,
+    wide: bool,
+    guest: usize,
+    vcpu: usize,
+) -> Target
+    requires { ⌜ Sound l ⌝ }
+    ensures { λ r. ⌜ r ≡ targetOf l (now (store .entry)) supported flags wide guest vcpu ⌝ }
+    ensures { λ r. ⌜ Held r wide l (length (now (store .entry))) ⌝ }
+{
+    let admission = admit(store, l, supported, flags);
+    match admission {
+        Admission::Refused(fault) => return Target::Turned(fault),
+        Admission::Admitted => {}
+    }
+    if !is_live(store, l, guest) {
+        return Target::Turned(Fault::Guest);
+    }
+    if wide {
+        return Target::At(guest_at(l, guest));
+    }
+    let slot = slot_of(store, l, guest, vcpu);
+    if l.slots <= slot {
+        return Target::Turned(Fault::Vcpu);
+    }
+    Target::At(slot_at(l, slot))
+}
+
+// The same where the layout is the one that there is: a copy for all callers, in which its numbers are known.
+pub fn small_target(
+    store: &[u8],
+    l: Layout,
+    supported: u64,
+    flags: u64,
+    wide: bool,
+    guest: usize,
+    vcpu: usize,
+) -> Target
+    requires { ⌜ l ≡ small ⌝ }
+    ensures { λ r. ⌜ r ≡ targetOf l (now (store .entry)) supported flags wide guest vcpu ⌝ }
+    ensures { λ r. ⌜ Held r wide l (length (now (store .entry))) ⌝ }
+{
+    target_of(store, small_layout(), supported, flags, wide, guest, vcpu)
+}

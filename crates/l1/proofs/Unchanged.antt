@@ -1,0 +1,100 @@
+-- A refused call of the cache leaves the cache, the store and every lent buffer as they were. Assumes nothing.
+use mathlib.Core.Path.{_≡_, refl, ap, _∙_}
+use mathlib.Core.Bool.{Bool, true, false, not, cond}
+use mathlib.Core.List.{List, _∷_}
+use Prim.Native.Nat.{ℕ}
+use lib.ListN.{length}
+use borrow.Author.Tests.{ne-eqb, not-false}
+use Rattle.octets.specs.Bytes.{bytesAt, put}
+use Rattle.answer.specs.declared.Fault.{Fault}
+use Rattle.answer.specs.declared.Fault.the-variants.{None, Cache as CacheBad}
+use Rattle.answer.specs.declared.Call.the-variants.{CacheRead}
+use Rattle.answer.specs.Answer.{told}
+use Rattle.gsb.specs.Message.{message}
+use Rattle.gsb.proofs.RoundTrip.{one-value}
+use Rattle.elements.specs.Table.{numberOf}
+use Rattle.exits.specs.Exits.{elementOf}
+use Rattle.store.specs.declared.Layout.{Layout}
+use Rattle.store.specs.Layout.{small}
+use Rattle.admission.specs.Refusals.{Outcome, success, refusal}
+use Rattle.admission.proofs.Judging.{Passed, each-way}
+use Rattle.state.specs.State.{getState}
+use Rattle.run.specs.Run.{cachedTests, cachedGood, ran, runVcpu}
+use Rattle.l0.specs.Calls.{GetState, outcome}
+use Rattle.promises.proofs.Kept.{Unchanged, refused-unchanged}
+use Rattle.promises.proofs.Used.{none-told}
+use Rattle.l1.specs.Cache.{Cache, valid, isInput, isReadable, goodCache, valueTests, Wrote, change, writeCache, Got, keep, one, valueIn, fetched, readCache, pending, Ran, ranWith, runCache}
+use Rattle.l1.proofs.Running.{passed-judged, run-accepted}
+
+-- ---- write
+pub write-unchanged : (c : Cache) (id : ℕ) (v : List ℕ) → (writeCache c id v .answer .fault ≡ None → ⊥) → writeCache c id v .cache ≡ c
+unfolding writeCache
+write-unchanged c id v =
+    each-way (λ (w : Wrote). (w .answer .fault ≡ None → ⊥) → w .cache ≡ c) (λ f. record { answer = refusal f; cache = c })
+    ((not (goodCache c), CacheBad) ∷ valueTests (isInput id) id v) (record { answer = success 0; cache = change c id v })
+    (λ f n. refl) (λ p n. absurd (n refl))
+
+-- ---- read
+pub record Unread (c : Cache) (v : List ℕ) (r : Got) : Type 0 where
+  pub kept : (r .answer .fault ≡ None → ⊥) → r .cache ≡ c
+  pub left : (r .answer .fault ≡ None → ⊥) → r .value ≡ v
+
+module _ (l : Layout) (s : List ℕ) (guest vcpu : ℕ) (c : Cache) (id : ℕ) (v : List ℕ) where
+  abbrev served : Got
+  served = record { answer = success 0; cache = c; value = bytesAt (c .values) (elementOf id .position) (elementOf id .size) }
+
+  abbrev got : Outcome
+  got = getState l s 0 guest vcpu (one id v)
+
+  beside : Unchanged s (one id v) got
+  beside = unfold outcome in refused-unchanged l s (GetState 0 guest vcpu (one id v))
+
+  asked : Unread c v (fetched c id (length v) got)
+  unfolding fetched
+  asked = record {
+    kept = λ n. ap (λ (t : Bool). cond t (keep c id (valueIn (got .buffer) (length v))) c) (ne-eqb (told CacheRead (got .answer .fault) (got .answer .value) .r3) 0 (λ z. n (none-told CacheRead (got .answer .fault) (got .answer .value) z)));
+    left = λ n. ap (λ (b : List ℕ). valueIn b (length v)) (beside .buffer n) ∙ one-value id v;
+  }
+
+  either : (t : Bool) → Unread c v (cond t served (fetched c id (length v) got))
+  either true = record { kept = λ n. absurd (n refl); left = λ n. absurd (n refl) }
+  either false = asked
+
+  pub read-unchanged : Unread c v (readCache l s guest vcpu c id v)
+  unfolding readCache
+  read-unchanged =
+      each-way (Unread c v) (λ f. record { answer = refusal f; cache = c; value = v })
+      ((not (goodCache c), CacheBad) ∷ valueTests (isReadable id) id v) (cond (valid c (numberOf id)) served (fetched c id (length v) got))
+      (λ f. record { kept = λ n. refl; left = λ n. refl }) (λ p. either (valid c (numberOf id)))
+
+-- ---- run
+pub record Unrun (s : List ℕ) (c : Cache) (lentIn lentOut : List ℕ) (r : Ran) : Type 0 where
+  pub held : (r .answer .fault ≡ None → ⊥) → r .store ≡ s
+  pub kept : (r .answer .fault ≡ None → ⊥) → r .cache ≡ c
+  pub before : (r .answer .fault ≡ None → ⊥) → r .input ≡ lentIn
+  pub behind : (r .answer .fault ≡ None → ⊥) → r .output ≡ lentOut
+
+module _ (s : List ℕ) (c : Cache) (flags guest vcpu : ℕ) (input output effect : List ℕ) (exit : ℕ) where
+  abbrev laid : List ℕ
+  laid = put input 0 (message (pending c))
+
+  abbrev tests : List (Bool × Fault)
+  tests = cachedTests small s flags guest vcpu (length (message (pending c))) (length input) (length output) effect exit
+
+  abbrev gone : Ran
+  gone = ranWith c laid (runVcpu small s flags guest vcpu laid output effect exit)
+
+  -- past its tests a run of the cache is accepted: the input that it wrote is good
+  past : Passed ((not (goodCache c), CacheBad) ∷ tests) → gone .answer .fault ≡ None
+  past p =
+      unfold ranWith ran cachedGood in
+      ap (λ (o : Outcome). o .answer .fault)
+      (run-accepted s (c .values) (c .marks) input output effect flags guest vcpu exit (not-false (goodCache c) (p .0)) (passed-judged tests (p .1)))
+
+  pub run-unchanged : Unrun s c input output (runCache small s c flags guest vcpu input output effect exit)
+  unfolding runCache
+  run-unchanged =
+      each-way (Unrun s c input output) (λ f. record { answer = refusal f; store = s; cache = c; input = input; output = output })
+      ((not (goodCache c), CacheBad) ∷ tests) gone
+      (λ f. record { held = λ n. refl; kept = λ n. refl; before = λ n. refl; behind = λ n. refl })
+      (λ p. record { held = λ n. absurd (n (past p)); kept = λ n. absurd (n (past p)); before = λ n. absurd (n (past p)); behind = λ n. absurd (n (past p)) })

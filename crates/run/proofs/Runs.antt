@@ -1,0 +1,382 @@
+-- Run vCPU, in the form of the code's needs. Assumes nothing.
+use mathlib.Core.Path.{_≡_, refl, sym, ap, ap₂, _∙_, subst}
+use mathlib.Core.Bool.{Bool, true, false, not, _||_, cond}
+use mathlib.Core.List.{List, [], _∷_}
+use Prim.Native.Nat.{ℕ, _+_, _≤_, _<_}
+use native.Mathlib.Omega.{arith}
+use lib.Dec.{leb, ltb}
+use lib.ListN.{length}
+use borrow.Author.Tests.{lt-ltb, le-ltb, ltb-false, leb-true, leb-false, not-true, not-false}
+use Rattle.octets.specs.Bytes.{bytesAt, put, be}
+use Rattle.octets.proofs.Bytes.{length-bytesAt}
+use Rattle.answer.specs.declared.Answer.{Answer}
+use Rattle.answer.specs.declared.Bad.{Bad}
+use Rattle.answer.specs.declared.Place.{Place}
+use Rattle.answer.specs.declared.RunBuffer.the-variants.{Input, Output}
+use Rattle.answer.specs.declared.Fault.{Fault}
+use Rattle.answer.specs.declared.Fault.the-variants.{Element, Unregistered, Short, Exit, Effect}
+use Rattle.answer.specs.Refusals.{firstOf}
+use Rattle.elements.specs.declared.Usage.the-variants.{RunInput, Effect as InEffect}
+use Rattle.elements.specs.Table.{position, below, table}
+use Rattle.elements.specs.Rules.{goodInput, goodOutput}
+use Rattle.gsb.specs.declared.Walked.{Walked}
+use Rattle.gsb.specs.declared.Walked.the-variants.{Done, Stopped}
+use Rattle.gsb.specs.Walk.{countOf, badLength, firstBad}
+use Rattle.gsb.proofs.Lookups.{long-enough}
+use Rattle.store.specs.declared.Layout.{Layout}
+use Rattle.store.specs.Layout.{Sound, small, slotBytes}
+use Rattle.store.specs.Header.{header, capabilitiesOf, slotOf}
+use Rattle.store.proofs.Frame.{formed}
+use Rattle.store.proofs.Search.{both}
+use Rattle.transfer.specs.Transfer.{applied, AllReady}
+use Rattle.transfer.proofs.Moving.{length-applied}
+use Rattle.exits.specs.Exits.{known, outputOf}
+use Rattle.admission.specs.declared.Admission.{Admission}
+use Rattle.admission.specs.declared.Admission.the-variants.{Admitted, Refused}
+use Rattle.admission.specs.declared.Target.{Target}
+use Rattle.admission.specs.declared.Target.the-variants.{Turned, At}
+use Rattle.run.specs.declared.Spot.{Spot}
+use Rattle.run.specs.declared.Spot.the-variants.{Off, Slot}
+use Rattle.admission.specs.Refusals.{Outcome, success, refusal, refuse, decide, judgement}
+use Rattle.admission.specs.Target.{targetTests, baseOf, targetOf}
+use Rattle.state.specs.State.{contextOf, isStopped, faultOf}
+use Rattle.run.specs.Run.{runBits, inputSize, outputSize, lentTests, effectFault, exitTests, spotTests, inputOf, contentTests, runTests, cachedTests, cachedGood, ranStore, ran, runVcpu}
+use Rattle.run.specs.Private.{lentGood, exitGood, spotOf, contentGood, judgedRun}
+use Rattle.admission.proofs.Judging.{begin-refused, begin-admitted, all-refused, all-admitted, was-refused, was-admitted, Passed, judged-passed}
+use Rattle.admission.proofs.Targets.{target-judged, target-found}
+use Rattle.state.proofs.Buffers.{walked-as, ready-as}
+
+-- ---- the answers of `judge_lent`: where the code reads the sizes
+input-at : (s : List ℕ) (base : ℕ) → inputSize s base ≡ be s (base + 8) 8
+unfolding position below table
+input-at s base = let e : base + 0 + 8 ≡ base + 8 = omega arith in ap (λ (n : ℕ). be s n 8) e
+
+output-at : (s : List ℕ) (base : ℕ) → outputSize s base ≡ be s (base + 24) 8
+unfolding position below table
+output-at s base = let e : base + 16 + 8 ≡ base + 24 = omega arith in ap (λ (n : ℕ). be s n 8) e
+
+lentBy : Bool → Bool → Bool → Bool → Admission
+lentBy a b c d = cond (not a) (Refused (Unregistered Input)) (cond (not b) (Refused (Unregistered Output)) (cond c (Refused (Short Input)) (cond d (Refused (Short Output)) Admitted)))
+
+module _ (s : List ℕ) (base need inputLength outputLength i o : ℕ) (ei : i ≡ be s (base + 8) 8) (eo : o ≡ be s (base + 24) 8) where
+  lent-as : (a b c d : Bool) → goodInput i ≡ a → goodOutput o ≡ b → (ltb inputLength i || ltb i need) ≡ c → ltb outputLength o ≡ d → lentBy a b c d ≡ lentGood s base need inputLength outputLength
+  unfolding lentGood lentBy
+  lent-as a b c d p q r t =
+      sym (ap₂ (λ (x y : ℕ). judgement ((not (goodInput x), Unregistered Input) ∷ (not (goodOutput y), Unregistered Output) ∷ (ltb inputLength x || ltb x need, Short Input) ∷ (ltb outputLength y, Short Output) ∷ []))
+      (input-at s base ∙ sym ei) (output-at s base ∙ sym eo)
+      ∙ ap₂ (λ (x y : Bool). lentBy x y (ltb inputLength i || ltb i need) (ltb outputLength o)) p q ∙ ap₂ (lentBy a b) r t)
+
+  module _ (x : Bool) (ex : x ≡ goodInput i) where
+    pub lent-no-input : not x ≡ true → Refused (Unregistered Input) ≡ lentGood s base need inputLength outputLength
+    unfolding lentBy
+    lent-no-input h = lent-as false (goodOutput o) (ltb inputLength i || ltb i need) (ltb outputLength o) (sym ex ∙ not-true x h) refl refl refl
+
+    module _ (hx : not x ≡ false) (y : Bool) (ey : y ≡ goodOutput o) where
+      pub lent-no-output : not y ≡ true → Refused (Unregistered Output) ≡ lentGood s base need inputLength outputLength
+      unfolding lentBy
+      lent-no-output h = lent-as true false (ltb inputLength i || ltb i need) (ltb outputLength o) (sym ex ∙ not-false x hx) (sym ey ∙ not-true y h) refl refl
+
+      module _ (hy : not y ≡ false) where
+        pub lent-short : inputLength < i → Refused (Short Input) ≡ lentGood s base need inputLength outputLength
+        unfolding lentBy
+        lent-short h = lent-as true true true (ltb outputLength o) (sym ex ∙ not-false x hx) (sym ey ∙ not-false y hy) (simp (lt-ltb _ _ h)) refl
+
+        module _ (k : i ≤ inputLength) where
+          pub lent-small : i < need → Refused (Short Input) ≡ lentGood s base need inputLength outputLength
+          unfolding lentBy
+          lent-small h = lent-as true true true (ltb outputLength o) (sym ex ∙ not-false x hx) (sym ey ∙ not-false y hy) (simp (le-ltb _ _ k, lt-ltb _ _ h)) refl
+
+          module _ (m : need ≤ i) where
+            pub lent-short-output : outputLength < o → Refused (Short Output) ≡ lentGood s base need inputLength outputLength
+            unfolding lentBy
+            lent-short-output h = lent-as true true false true (sym ex ∙ not-false x hx) (sym ey ∙ not-false y hy) (simp (le-ltb _ _ k, le-ltb _ _ m)) (lt-ltb _ _ h)
+
+            pub lent-all : o ≤ outputLength → Admitted ≡ lentGood s base need inputLength outputLength
+            unfolding lentBy
+            lent-all h = lent-as true true false false (sym ex ∙ not-false x hx) (sym ey ∙ not-false y hy) (simp (le-ltb _ _ k, le-ltb _ _ m)) (le-ltb _ _ h)
+
+-- ---- the answers of `spot_of`
+module _ (l : Layout) (s : List ℕ) (flags guest vcpu need inputLength outputLength : ℕ) (a : Target) (q : a ≡ targetOf l s runBits flags false guest vcpu) where
+  abbrev slotted : Spot
+  slotted = Slot (baseOf l s false guest vcpu) (inputSize s (baseOf l s false guest vcpu))
+
+  abbrev firsts : List (Bool × Fault)
+  firsts = targetTests l s runBits flags false guest vcpu
+
+  abbrev lents : List (Bool × Fault)
+  lents = lentTests s (baseOf l s false guest vcpu) need inputLength outputLength
+
+  pub spot-turned : (f : Fault) → a ≡ Turned f → Off f ≡ spotOf l s flags guest vcpu need inputLength outputLength
+  unfolding spotOf
+  spot-turned f h = sym (begin-refused Off slotted firsts lents f (target-judged l s runBits flags false guest vcpu a q f h))
+
+  module _ (base : ℕ) (h : a ≡ At base) (v : Admission) (w : v ≡ lentGood s base need inputLength outputLength) where
+    lent-at : judgement lents ≡ v
+    unfolding lentGood
+    lent-at = ap (λ (x : ℕ). judgement (lentTests s x need inputLength outputLength)) (target-found l s runBits flags false guest vcpu a q base h .1) ∙ sym w
+
+    spot-past : spotOf l s flags guest vcpu need inputLength outputLength ≡ firstOf Off lents slotted
+    unfolding spotOf
+    spot-past = begin-admitted Off slotted firsts lents (target-found l s runBits flags false guest vcpu a q base h .0)
+
+    pub spot-lent : (f : Fault) → v ≡ Refused f → Off f ≡ spotOf l s flags guest vcpu need inputLength outputLength
+    spot-lent f k = sym (spot-past ∙ all-refused Off slotted lents f (lent-at ∙ k))
+
+    pub spot-found : (n : ℕ) → v ≡ Admitted → n ≡ be s (base + 8) 8 → Slot base n ≡ spotOf l s flags guest vcpu need inputLength outputLength
+    spot-found n k e =
+        let b = target-found l s runBits flags false guest vcpu a q base h .1 in
+        ap (Slot base) (e ∙ sym (input-at s base)) ∙ ap (λ (x : ℕ). Slot x (inputSize s x)) (sym b) ∙ sym (spot-past ∙ all-admitted Off slotted lents (lent-at ∙ k))
+
+-- ---- the answers of `judge_exit` and `judge_content`
+module _ (l : Layout) (s effect : List ℕ) (exit : ℕ) (x : Bool) (ex : x ≡ known exit) where
+  exitBy : Bool → Bool → Walked → Admission
+  exitBy a b w = cond (not a) (Refused Exit) (cond b (Refused (Effect (record { index = 0; offset = 0 }))) (cond (isStopped w) (Refused (effectFault w)) Admitted))
+
+  exit-as : (a b : Bool) (w : Walked) → known exit ≡ a → badLength effect ≡ b → firstBad (contextOf l s InEffect) effect ≡ w → exitBy a b w ≡ exitGood l s effect exit
+  unfolding exitGood exitBy
+  exit-as a b w p q r = sym (ap₂ (λ (y z : Bool). exitBy y z (firstBad (contextOf l s InEffect) effect)) p q ∙ ap (exitBy a b) r)
+
+  pub exit-unknown : not x ≡ true → Refused Exit ≡ exitGood l s effect exit
+  unfolding exitBy
+  exit-unknown h = exit-as false (badLength effect) (firstBad (contextOf l s InEffect) effect) (sym ex ∙ not-true x h) refl refl
+
+  module _ (hx : not x ≡ false) (y : Bool) (ey : y ≡ badLength effect) where
+    pub exit-length : y ≡ true → Refused (Effect (record { index = 0; offset = 0 })) ≡ exitGood l s effect exit
+    unfolding exitBy
+    exit-length h = exit-as true true (firstBad (contextOf l s InEffect) effect) (sym ex ∙ not-false x hx) (sym ey ∙ h) refl
+
+    module _ (hy : y ≡ false) (c : ℕ) (k : c ≡ capabilitiesOf (header l s)) (w : Walked) (q : w ≡ firstBad (record { usage = InEffect; capabilities = c }) effect) where
+      pub exit-bad : (bad : Bad) (place : Place) → w ≡ Stopped bad place → Refused (Effect place) ≡ exitGood l s effect exit
+      unfolding exitBy
+      exit-bad bad place d = exit-as true false (Stopped bad place) (sym ex ∙ not-false x hx) (sym ey ∙ hy) (walked-as l s InEffect effect c w k q ∙ d)
+
+      pub exit-done : w ≡ Done → Admitted ≡ exitGood l s effect exit
+      unfolding exitBy
+      exit-done d = exit-as true false Done (sym ex ∙ not-false x hx) (sym ey ∙ hy) (walked-as l s InEffect effect c w k q ∙ d)
+
+module _ (l : Layout) (s input effect : List ℕ) (exit c : ℕ) (k : c ≡ capabilitiesOf (header l s)) (w : Walked) (q : w ≡ firstBad (record { usage = RunInput; capabilities = c }) input) where
+  contentBy : Walked → Admission
+  contentBy v = cond (isStopped v) (Refused (faultOf v)) (judgement (exitTests l s effect exit))
+
+  content-as : (v : Walked) → w ≡ v → contentBy v ≡ contentGood l s input effect exit
+  unfolding contentGood contentBy
+  content-as v d = sym (ap contentBy (walked-as l s RunInput input c w k q ∙ d))
+
+  pub content-bad : (bad : Bad) (place : Place) → w ≡ Stopped bad place → Refused (Element bad place) ≡ contentGood l s input effect exit
+  unfolding contentBy
+  content-bad bad place d = content-as (Stopped bad place) d
+
+  pub content-exit : (v : Admission) → w ≡ Done → v ≡ exitGood l s effect exit → v ≡ contentGood l s input effect exit
+  unfolding contentBy exitGood
+  content-exit v d e = e ∙ content-as Done d
+
+-- ---- back from a spot
+off-same : (f g : Fault) → Off f ≡ Off g → f ≡ g
+off-same f g e = cc
+
+off-not : {base n : ℕ} (f : Fault) → Slot base n ≡ Off f → ⊥
+off-not f e = let z : _≡_ {A = ℕ} 0 1 = cc in omega arith
+
+slot-not : {base n : ℕ} (f : Fault) → Off f ≡ Slot base n → ⊥
+slot-not f e = let z : _≡_ {A = ℕ} 0 1 = cc in omega arith
+
+slot-same : {b c m n : ℕ} → Slot b m ≡ Slot c n → (b ≡ c) × (m ≡ n)
+slot-same e = (cc, cc)
+
+-- what the tests 1 to 12 say of the buffers and of the slot
+pub record Spotted (l : Layout) (s : List ℕ) (base n inputLength outputLength : ℕ) : Type 0 where
+  pub long : length s ≡ l .size
+  pub room : base + slotBytes ≤ l .size
+  pub some : 4 ≤ n
+  pub lent : n ≤ inputLength
+  pub out : 124 ≤ outputLength
+
+pub spotted : (l : Layout) → Sound l → (s : List ℕ) (flags guest vcpu need inputLength outputLength : ℕ) → Passed (spotTests l s flags guest vcpu need inputLength outputLength)
+    → Spotted l s (baseOf l s false guest vcpu) (inputSize s (baseOf l s false guest vcpu)) inputLength outputLength
+unfolding baseOf
+spotted l so s flags guest vcpu need inputLength outputLength p =
+    let k : slotOf l (header l s) guest vcpu < l .slots = leb-false _ _ (p .1 .1 .1 .0) in
+    let base = baseOf l s false guest vcpu in
+    let t = p .1 .1 .1 .1 in
+    let i = both (leb 4 (inputSize s base)) (leb (inputSize s base) 65536) (not-false _ (t .0)) in
+    let o = both (leb 124 (outputSize s base)) (leb (outputSize s base) 65536) (not-false _ (t .1 .0)) in
+    record {
+      long = formed l s (not-false _ (p .0)) .long;
+      room = omega (arith, so .whole);
+      some = leb-true _ _ (i .0);
+      lent = ltb-false _ _ (or-left _ _ (t .1 .1 .0));
+      out = omega (arith, leb-true 124 (outputSize s base) (o .0), ltb-false outputLength (outputSize s base) (t .1 .1 .1 .0));
+    }
+  where
+    or-left : (a b : Bool) → (a || b) ≡ false → a ≡ false
+    or-left true b e = e
+    or-left false b e = refl
+
+module _ (l : Layout) (so : Sound l) (s : List ℕ) (flags guest vcpu need inputLength outputLength : ℕ) (a : Spot) (q : a ≡ spotOf l s flags guest vcpu need inputLength outputLength) (base n : ℕ) (h : a ≡ Slot base n) where
+  found : (judgement (spotTests l s flags guest vcpu need inputLength outputLength) ≡ Admitted) × (Slot (baseOf l s false guest vcpu) (inputSize s (baseOf l s false guest vcpu)) ≡ Slot base n)
+  unfolding spotOf
+  found = was-admitted Off off-same (Slot (baseOf l s false guest vcpu) (inputSize s (baseOf l s false guest vcpu))) off-not (spotTests l s flags guest vcpu need inputLength outputLength) (Slot base n) slot-not (sym q ∙ h)
+
+  spot-is : Spotted l s base n inputLength outputLength
+  spot-is =
+      let e = slot-same (found .1) in
+      let p = spotted l so s flags guest vcpu need inputLength outputLength (judged-passed (spotTests l s flags guest vcpu need inputLength outputLength) (found .0)) in
+      subst (λ (x : ℕ). Spotted l s x n inputLength outputLength) (e .0) (subst (λ (y : ℕ). Spotted l s (baseOf l s false guest vcpu) y inputLength outputLength) (e .1) p)
+
+  pub spot-long : length s ≡ l .size
+  spot-long = spot-is .long
+
+  pub spot-lends : n ≤ inputLength
+  spot-lends = spot-is .lent
+
+  pub spot-part : (input part : List ℕ) → length input ≡ inputLength → part ≡ bytesAt input 0 n → 4 ≤ length part
+  spot-part input part e p = omega (arith, ap length p, length-bytesAt input 0 n (omega (arith, spot-is .lent, e)), spot-is .some)
+
+-- ---- the answers of `judge_cached`
+module _ (l : Layout) (e : l ≡ small) (s : List ℕ) (flags guest vcpu need inputLength outputLength : ℕ) (effect : List ℕ) (exit : ℕ) (a : Spot) (q : a ≡ spotOf l s flags guest vcpu need inputLength outputLength) where
+  cached-as : judgement (cachedTests l s flags guest vcpu need inputLength outputLength effect exit) ≡ cachedGood small s flags guest vcpu need inputLength outputLength effect exit
+  unfolding cachedGood
+  cached-as = ap (λ (k : Layout). judgement (cachedTests k s flags guest vcpu need inputLength outputLength effect exit)) e
+
+  pub cached-off : (f : Fault) → a ≡ Off f → Refused f ≡ cachedGood small s flags guest vcpu need inputLength outputLength effect exit
+  unfolding spotOf
+  cached-off f h =
+      let w = was-refused Off off-same (Slot (baseOf l s false guest vcpu) (inputSize s (baseOf l s false guest vcpu))) off-not (spotTests l s flags guest vcpu need inputLength outputLength) f (sym q ∙ h) in
+      sym (begin-refused Refused Admitted (spotTests l s flags guest vcpu need inputLength outputLength) (exitTests l s effect exit) f w) ∙ cached-as
+
+  pub cached-exit : (so : Sound l) (base n : ℕ) (v : Admission) → a ≡ Slot base n → v ≡ exitGood l s effect exit → v ≡ cachedGood small s flags guest vcpu need inputLength outputLength effect exit
+  unfolding exitGood
+  cached-exit so base n v h w =
+      w ∙ sym (begin-admitted Refused Admitted (spotTests l s flags guest vcpu need inputLength outputLength) (exitTests l s effect exit) (found l so s flags guest vcpu need inputLength outputLength a q base n h .0)) ∙ cached-as
+
+-- ---- the answers of `judge_run`
+module _ (l : Layout) (s : List ℕ) (flags guest vcpu : ℕ) (input : List ℕ) (outputLength : ℕ) (effect : List ℕ) (exit : ℕ) (a : Spot) (q : a ≡ spotOf l s flags guest vcpu 0 (length input) outputLength) where
+  abbrev there : Spot
+  there = Slot (baseOf l s false guest vcpu) (inputSize s (baseOf l s false guest vcpu))
+
+  abbrev spots : List (Bool × Fault)
+  spots = spotTests l s flags guest vcpu 0 (length input) outputLength
+
+  abbrev contents : List (Bool × Fault)
+  contents = contentTests l s (inputOf s (baseOf l s false guest vcpu) input) effect exit
+
+  pub run-off : (f : Fault) → a ≡ Off f → Off f ≡ judgedRun l s flags guest vcpu input outputLength effect exit
+  unfolding judgedRun spotOf
+  run-off f h = sym (begin-refused Off there spots contents f (was-refused Off off-same there off-not spots f (sym q ∙ h)))
+
+  module _ (base n : ℕ) (h : a ≡ Slot base n) where
+    run-found : (judgement spots ≡ Admitted) × (there ≡ Slot base n)
+    unfolding spotOf
+    run-found = was-admitted Off off-same there off-not spots (Slot base n) slot-not (sym q ∙ h)
+
+    run-past : judgedRun l s flags guest vcpu input outputLength effect exit ≡ firstOf Off contents there
+    unfolding judgedRun
+    run-past = begin-admitted Off there spots contents (run-found .0)
+
+    module _ (part : List ℕ) (p : part ≡ bytesAt input 0 n) (v : Admission) (w : v ≡ contentGood l s part effect exit) where
+      judged-content : judgement contents ≡ v
+      unfolding contentGood
+      judged-content = ap (λ (x : List ℕ). judgement (contentTests l s x effect exit)) (ap (bytesAt input 0) (slot-same (run-found .1) .1) ∙ sym p) ∙ sym w
+
+      pub run-content : (f : Fault) → v ≡ Refused f → Off f ≡ judgedRun l s flags guest vcpu input outputLength effect exit
+      run-content f k = sym (run-past ∙ all-refused Off there contents f (judged-content ∙ k))
+
+      pub run-slot : v ≡ Admitted → Slot base n ≡ judgedRun l s flags guest vcpu input outputLength effect exit
+      run-slot k = sym (run-past ∙ all-admitted Off there contents (judged-content ∙ k) ∙ run-found .1)
+
+-- ---- `run_at` and the call
+pub stopped-not : (v : Walked) → isStopped v ≡ false → v ≡ Done
+stopped-not Done d = refl
+stopped-not (Stopped bad place) d = let y : _≡_ {A = ℕ} 0 1 = cc in absurd (omega arith)
+
+pub ready-after : (base : ℕ) (s t input effect : List ℕ) → t ≡ applied base input (countOf input) s → AllReady base effect (length s) → AllReady base effect (length t)
+ready-after base s t input effect e r = subst (AllReady base effect) (sym (ap length e ∙ length-applied base input s (countOf input))) r
+
+pub room-after : (base : ℕ) (s t u input effect : List ℕ) → t ≡ applied base input (countOf input) s → u ≡ applied base effect (countOf effect) t → base + slotBytes ≤ length s → base + slotBytes ≤ length u
+room-after base s t u input effect e f h =
+    omega (arith, h, ap length e, length-applied base input s (countOf input), ap length f, length-applied base effect t (countOf effect))
+
+module _ (base : ℕ) (s input output effect : List ℕ) (exit : ℕ) where
+  pub run-left : (t u o : List ℕ) (r : Answer) → t ≡ applied base input (countOf input) s → u ≡ applied base effect (countOf effect) t → o ≡ put output 0 (outputOf base u exit) → r ≡ success exit
+      → _≡_ {A = Outcome} (record { answer = r; store = u; buffer = o }) (ran base s input output effect exit)
+  unfolding ran ranStore
+  run-left t u o r a b c d =
+      let z : u ≡ applied base effect (countOf effect) (applied base input (countOf input) s) = b ∙ ap (applied base effect (countOf effect)) a in
+      ap₂ (λ (x : Answer) (y : List ℕ). record { answer = x; store = u; buffer = y }) d c ∙ ap (λ (y : List ℕ). record { answer = success exit; store = y; buffer = put output 0 (outputOf base y exit) }) z
+
+-- a run that was judged good
+module _ (l : Layout) (s : List ℕ) (flags guest vcpu : ℕ) (input : List ℕ) (outputLength : ℕ) (effect : List ℕ) (exit : ℕ) (a : Spot) (q : a ≡ judgedRun l s flags guest vcpu input outputLength effect exit) where
+  abbrev at-slot : Spot
+  at-slot = Slot (baseOf l s false guest vcpu) (inputSize s (baseOf l s false guest vcpu))
+
+  abbrev tests : List (Bool × Fault)
+  tests = runTests l s flags guest vcpu input outputLength effect exit
+
+  call-turned : (f : Fault) → a ≡ Off f → judgement tests ≡ Refused f
+  unfolding judgedRun
+  call-turned f h = was-refused Off off-same at-slot off-not tests f (sym q ∙ h)
+
+  module _ (base n : ℕ) (h : a ≡ Slot base n) where
+    call-found : (judgement tests ≡ Admitted) × (at-slot ≡ Slot base n)
+    unfolding judgedRun
+    call-found = was-admitted Off off-same at-slot off-not tests (Slot base n) slot-not (sym q ∙ h)
+
+    call-part : (part : List ℕ) → part ≡ bytesAt input 0 n → part ≡ inputOf s (baseOf l s false guest vcpu) input
+    call-part part p = p ∙ ap (bytesAt input 0) (sym (slot-same (call-found .1) .1))
+
+    passed : Passed tests
+    passed = judged-passed tests (call-found .0)
+
+    pub call-known : known exit ≡ true
+    call-known = not-false _ (passed .1 .1 .1 .1 .1 .1 .1 .1 .1 .0)
+
+    module _ (so : Sound l) where
+      is-spot : Spotted l s base n (length input) outputLength
+      is-spot =
+          let p = passed in
+          let z = slot-same (call-found .1) in
+          let y = spotted l so s flags guest vcpu 0 (length input) outputLength (p .0, (p .1 .0, (p .1 .1 .0, (p .1 .1 .1 .0, (p .1 .1 .1 .1 .0, (p .1 .1 .1 .1 .1 .0, (p .1 .1 .1 .1 .1 .1 .0, (p .1 .1 .1 .1 .1 .1 .1 .0, tt)))))))) in
+          subst (λ (x : ℕ). Spotted l s x n (length input) outputLength) (z .0) (subst (λ (w : ℕ). Spotted l s (baseOf l s false guest vcpu) w (length input) outputLength) (z .1) y)
+
+      pub call-lends : n ≤ length input
+      call-lends = is-spot .lent
+
+      pub call-room : base + slotBytes ≤ length s
+      call-room = omega (arith, is-spot .room, is-spot .long)
+
+      pub call-out : 124 ≤ outputLength
+      call-out = is-spot .out
+
+      pub call-input : (part : List ℕ) → part ≡ bytesAt input 0 n → AllReady base part (length s)
+      call-input part p =
+          let w : firstBad (contextOf l s RunInput) part ≡ Done = ap (firstBad (contextOf l s RunInput)) (call-part part p) ∙ stopped-not _ (passed .1 .1 .1 .1 .1 .1 .1 .1 .0) in
+          let k : 4 ≤ length part = omega (arith, ap length p, length-bytesAt input 0 n (omega (arith, is-spot .lent)), is-spot .some) in
+          ready-as (contextOf l s RunInput) base (length s) part w call-room k
+
+      pub call-effect : AllReady base effect (length s)
+      call-effect =
+          let t = passed .1 .1 .1 .1 .1 .1 .1 .1 .1 .1 in
+          ready-as (contextOf l s InEffect) base (length s) effect (stopped-not _ (t .1 .0)) call-room (long-enough effect (badLength effect) refl (t .0))
+
+-- the call
+module _ (l : Layout) (e : l ≡ small) (s : List ℕ) (flags guest vcpu : ℕ) (input output effect : List ℕ) (exit outputLength : ℕ) (m : outputLength ≡ length output)
+    (a : Spot) (q : a ≡ judgedRun l s flags guest vcpu input outputLength effect exit) where
+  abbrev done : Outcome
+  done = ran (baseOf l s false guest vcpu) s (inputOf s (baseOf l s false guest vcpu) input) output effect exit
+
+  call-as : firstOf (refuse s output) (runTests l s flags guest vcpu input outputLength effect exit) done ≡ runVcpu small s flags guest vcpu input output effect exit
+  unfolding runVcpu decide
+  call-as = ap (λ (n : ℕ). firstOf (refuse s output) (runTests l s flags guest vcpu input n effect exit) done) m ∙ ap (λ (k : Layout). runVcpu k s flags guest vcpu input output effect exit) e
+
+  pub call-off : (r : Answer) (f : Fault) → a ≡ Off f → r ≡ refusal f → _≡_ {A = Outcome} (record { answer = r; store = s; buffer = output }) (runVcpu small s flags guest vcpu input output effect exit)
+  call-off r f h i =
+      ap (λ (x : Answer). record { answer = x; store = s; buffer = output }) i
+      ∙ sym (all-refused (refuse s output) done (runTests l s flags guest vcpu input outputLength effect exit) f (call-turned l s flags guest vcpu input outputLength effect exit a q f h)) ∙ call-as
+
+  pub call-left : (base n : ℕ) → a ≡ Slot base n → (part : List ℕ) → part ≡ bytesAt input 0 n → (r : Answer) (u o : List ℕ)
+      → _≡_ {A = Outcome} (record { answer = r; store = u; buffer = o }) (ran base s part output effect exit)
+      → _≡_ {A = Outcome} (record { answer = r; store = u; buffer = o }) (runVcpu small s flags guest vcpu input output effect exit)
+  call-left base n h part p r u o i =
+      let f = call-found l s flags guest vcpu input outputLength effect exit a q base n h in
+      i ∙ ap₂ (λ (x : ℕ) (y : List ℕ). ran x s y output effect exit) (sym (slot-same (f .1) .0)) (call-part l s flags guest vcpu input outputLength effect exit a q base n h part p)
+      ∙ sym (all-admitted (refuse s output) done (runTests l s flags guest vcpu input outputLength effect exit) (f .0)) ∙ call-as

@@ -1,0 +1,55 @@
+-- By the target, then by the lent buffers (`spot-..`).
+use Rattle.admission.proofs.Targets.{held-vcpu, held-fits, held-inside}
+use Rattle.run.proofs.Runs.{spot-turned, spot-lent, spot-found}
+use borrow.Author.Needs.{needs}
+use Rattle.run.proofs.spot_of.Statement.{statement}
+use Rattle.run.proofs.spot_of.Tie as tie
+
+small-target-requires : tie.Need-small-target-requires
+small-target-requires c κs = search needs
+
+enum-known-target : tie.Need-enum-known-target
+enum-known-target c = search needs
+
+enum-known-target-2 : tie.Need-enum-known-target-2
+enum-known-target-2 c = search needs
+
+judge-lent-requires : tie.Need-judge-lent-requires
+judge-lent-requires c κs = search (needs, held-vcpu)
+
+enum-known-lent : tie.Need-enum-known-lent
+enum-known-lent c = search needs
+
+enum-told : tie.Need-enum-told
+enum-told c = search needs
+
+add-get64 : tie.Need-add-get64
+add-get64 c = search (needs, held-fits)
+
+get64-requires : tie.Need-get64-requires
+get64-requires c κs = search (needs, held-inside)
+
+returns : tie.Need-returns
+returns c = search (needs, spot-turned)
+
+returns-2 : tie.Need-returns-2
+returns-2 c = search (needs, spot-lent)
+
+returns-3 : tie.Need-returns-3
+returns-3 c = search (needs, spot-found)
+
+pub spot-of-spec : {M : Type 1} → statement M
+spot-of-spec =
+    tie.close
+    (tie.spec
+    small-target-requires
+    enum-known-target
+    enum-known-target-2
+    judge-lent-requires
+    enum-known-lent
+    enum-told
+    add-get64
+    get64-requires
+    returns
+    returns-2
+    returns-3)

@@ -1,0 +1,259 @@
+// Run vCPU. Everything is judged before a byte of the store or of the output changes.
+use admission::Admission;
+use admission::Target;
+use admission::small_target;
+use answer::Answer;
+use answer::Fault;
+use answer::Place;
+use answer::RunBuffer;
+use answer::refusal;
+use answer::success;
+use elements::Context;
+use elements::Usage;
+use elements::good_input;
+use elements::good_output;
+use exits::is_known;
+use exits::put_output;
+use gsb::Walked;
+use gsb::bad_length;
+use gsb::first_bad;
+use octets::first_bytes;
+use octets::get64;
+use store::Layout;
+use store::capabilities_of;
+use store::small_layout;
+use transfer::apply;
+ghost use mathlib.Core.Path.{_≡_};
+ghost use mathlib.Core.Bool.{true};
+ghost use Prim.Native.Nat.{_+_, _≤_};
+ghost use lib.ListN.{length};
+ghost use Rattle.exits.specs.Exits.{known};
+ghost use Rattle.transfer.specs.Transfer.{AllReady};
+ghost use Rattle.store.specs.Layout.{Sound, small, slotBytes};
+ghost use Rattle.admission.specs.Refusals.{Outcome};
+ghost use Rattle.run.specs.Run.{cachedGood, ran, runVcpu};
+ghost use Rattle.run.specs.Private.{lentGood, exitGood, contentGood, spotOf, judgedRun};
+
+// What a run works on: where the vCPU's values start, and how many bytes of the lent input count; or a refusal.
+pub enum Spot {
+    Off(Fault),
+    Slot(usize, usize),
+}
+
+// 0x0C00 and 0x0C01 stand first in a slot's values; their sizes are their second eight bytes.
+const INPUT_SIZE: usize = 8;
+
+const OUTPUT_SIZE: usize = 24;
+
+// 11 and 12. `need` is how much input the caller writes, which a run by itself does not.
+fn judge_lent(
+    store: &[u8],
+    base: usize,
+    need: usize,
+    input_len: usize,
+    output_len: usize,
+) -> Admission
+    requires { ⌜ base + slotBytes ≤ length (now store) ⌝ }
+    ensures { λ r. ⌜ r ≡ lentGood (now (store .entry)) base need «input_len» «output_len» ⌝ }
+{
+    let input = get64(store, base + INPUT_SIZE);
+    let output = get64(store, base + OUTPUT_SIZE);
+    if !good_input(input) {
+        return Admission::Refused(Fault::Unregistered(RunBuffer::Input));
+    }
+    if !good_output(output) {
+        return Admission::Refused(Fault::Unregistered(RunBuffer::Output));
+    }
+    if input_len < input as usize {
+        return Admission::Refused(Fault::Short(RunBuffer::Input));
+    }
+    if (input as usize) < need {
+        return Admission::Refused(Fault::Short(RunBuffer::Input));
+    }
+    if output_len < output as usize {
+        return Admission::Refused(Fault::Short(RunBuffer::Output));
+    }
+    Admission::Admitted
+}
+
+// The tests 1 to 12.
+fn spot_of(
+    store: &[u8],
+    l: Layout,
+    flags: u64,
+    guest: usize,
+    vcpu: usize,
+    need: usize,
+    input_len: usize,
+    output_len: usize,
+) -> Spot
+    requires { ⌜ l ≡ small ⌝ }
+    ensures { λ r. ⌜ r ≡ spotOf l (now (store .entry)) flags guest vcpu need «input_len» «output_len» ⌝ }
+{
+    let target = small_target(store, l, 0xE000_0000_0000_0000, flags, false, guest, vcpu);
+    match target {
+        Target::Turned(fault) => Spot::Off(fault),
+        Target::At(base) => {
+            let lent = judge_lent(store, base, need, input_len, output_len);
+            match lent {
+                Admission::Refused(fault) => Spot::Off(fault),
+                Admission::Admitted => Spot::Slot(base, get64(store, base + INPUT_SIZE) as usize),
+            }
+        }
+    }
+}
+
+// 13 and 14.
+fn judge_exit(store: &[u8], l: Layout, effect: &[u8], exit: u64) -> Admission
+    requires { ⌜ Sound l × (length (now store) ≡ l .size) ⌝ }
+    ensures { λ r. ⌜ r ≡ exitGood l (now (store .entry)) (now (effect .entry)) exit ⌝ }
+{
+    if !is_known(exit) {
+        return Admission::Refused(Fault::Exit);
+    }
+    if bad_length(effect) {
+        return Admission::Refused(Fault::Effect(Place {
+            index: 0,
+            offset: 0,
+        }));
+    }
+    let k = Context {
+        usage: Usage::Effect,
+        capabilities: capabilities_of(store, l),
+    };
+    match first_bad(effect, k) {
+        Walked::Stopped(_, place) => Admission::Refused(Fault::Effect(place)),
+        Walked::Done => Admission::Admitted,
+    }
+}
+
+// The input's elements, then 13 and 14.
+fn judge_content(store: &[u8], l: Layout, input: &[u8], effect: &[u8], exit: u64) -> Admission
+    requires { ⌜ Sound l × (length (now store) ≡ l .size) × (4 ≤ length (now input)) ⌝ }
+    ensures { λ r. ⌜ r ≡ contentGood l (now (store .entry)) (now (input .entry)) (now (effect .entry)) exit ⌝ }
+{
+    let k = Context {
+        usage: Usage::RunInput,
+        capabilities: capabilities_of(store, l),
+    };
+    match first_bad(input, k) {
+        Walked::Stopped(bad, place) => return Admission::Refused(Fault::Element(bad, place)),
+        Walked::Done => {}
+    }
+    judge_exit(store, l, effect, exit)
+}
+
+// All the tests of a run.
+fn judge_run(
+    store: &[u8],
+    l: Layout,
+    flags: u64,
+    guest: usize,
+    vcpu: usize,
+    input: &[u8],
+    output_len: usize,
+    effect: &[u8],
+    exit: u64,
+) -> Spot
+    requires { ⌜ l ≡ small ⌝ }
+    ensures { λ r. ⌜ r ≡ judgedRun l (now (store .entry)) flags guest vcpu (now (input .entry)) «output_len» (now (effect .entry)) exit ⌝ }
+{
+    let spot = spot_of(store, l, flags, guest, vcpu, 0, input.len(), output_len);
+    match spot {
+        Spot::Off(fault) => Spot::Off(fault),
+        Spot::Slot(base, size) => {
+            let content = judge_content(store, l, first_bytes(input, size), effect, exit);
+            match content {
+                Admission::Refused(fault) => Spot::Off(fault),
+                Admission::Admitted => Spot::Slot(base, size),
+            }
+        }
+    }
+}
+
+// All the tests of a run but those of the input's elements: the L1 cache writes these itself, `need` bytes, once the rest is good.
+pub fn judge_cached(
+    store: &[u8],
+    flags: u64,
+    guest: u64,
+    vcpu: u64,
+    need: usize,
+    input_len: usize,
+    output_len: usize,
+    effect: &[u8],
+    exit: u64,
+) -> Admission
+    ensures { λ r. ⌜ r ≡ cachedGood small (now (store .entry)) flags guest vcpu need «input_len» «output_len» (now (effect .entry)) exit ⌝ }
+{
+    let l = small_layout();
+    let spot = spot_of(
+        store,
+        l,
+        flags,
+        guest as usize,
+        vcpu as usize,
+        need,
+        input_len,
+        output_len,
+    );
+    match spot {
+        Spot::Off(fault) => Admission::Refused(fault),
+        Spot::Slot(_, _) => judge_exit(store, l, effect, exit),
+    }
+}
+
+// The input is applied, then the effect; then the output is written, with the values as they then are.
+fn run_at(
+    store: &mut [u8],
+    base: usize,
+    input: &[u8],
+    output: &mut [u8],
+    effect: &[u8],
+    exit: u64,
+) -> Answer
+    requires { ⌜ AllReady base (now input) (length (now store)) × AllReady base (now effect) (length (now store)) × (known exit ≡ true) × (base + slotBytes ≤ length (now store)) × (124 ≤ length (now output)) ⌝ }
+    ensures { λ r. ⌜ _≡_ {A = Outcome} (record { answer = r; store = now (store .exit); buffer = now (output .exit) }) (ran base (now (store .entry)) (now (input .entry)) (now (output .entry)) (now (effect .entry)) exit) ⌝ }
+{
+    apply(store, base, input);
+    apply(store, base, effect);
+    put_output(store, base, exit, output);
+    success(exit)
+}
+
+// H_GUEST_RUN_VCPU.
+pub fn run_vcpu(
+    store: &mut [u8],
+    flags: u64,
+    guest: u64,
+    vcpu: u64,
+    input: &[u8],
+    output: &mut [u8],
+    effect: &[u8],
+    exit_reason: u64,
+) -> Answer
+    ensures { λ r. ⌜ _≡_ {A = Outcome} (record { answer = r; store = now (store .exit); buffer = now (output .exit) }) (runVcpu small (now (store .entry)) flags guest vcpu (now (input .entry)) (now (output .entry)) (now (effect .entry)) «exit_reason») ⌝ }
+{
+    let l = small_layout();
+    let spot = judge_run(
+        store,
+        l,
+        flags,
+        guest as usize,
+        vcpu as usize,
+        input,
+        output.len(),
+        effect,
+        exit_reason,
+    );
+    match spot {
+        Spot::Off(fault) => refusal(fault),
+        Spot::Slot(base, size) => run_at(
+            store,
+            base,
+            first_bytes(input, size),
+            output,
+            effect,
+            exit_reason,
+        ),
+    }
+}

@@ -1,0 +1,67 @@
+-- 01, "Answers", "The guest state buffer": get state and set state. "get and set state 1, 2, 3, 4, 5, then the elements".
+use Prim.Native.Nat.{ℕ}
+use mathlib.Core.Bool.{Bool, true, false, cond}
+use mathlib.Core.List.{List, [], _∷_, _++_}
+use Rattle.answer.specs.declared.Fault.{Fault}
+use Rattle.answer.specs.declared.Fault.the-variants.{None, Length, Element}
+use Rattle.elements.specs.declared.Usage.{Usage}
+use Rattle.elements.specs.declared.Usage.the-variants.{GuestGet, GuestSet, ThreadGet, ThreadSet}
+use Rattle.elements.specs.declared.Context.{Context}
+use Rattle.gsb.specs.declared.Walked.{Walked}
+use Rattle.gsb.specs.declared.Walked.the-variants.{Done, Stopped}
+use Rattle.gsb.specs.Walk.{countOf, badLength, firstBad}
+use Rattle.gsb.specs.Message.{message}
+use Rattle.store.specs.declared.Layout.{Layout}
+use Rattle.store.specs.Layout.{small}
+use Rattle.store.specs.Header.{header, capabilitiesOf}
+use Rattle.transfer.specs.Transfer.{applied, filled}
+use Rattle.admission.specs.Refusals.{Outcome, success, accept, decide, bit0, hasBit0}
+use Rattle.admission.specs.Target.{targetTests, baseOf}
+
+-- the use of the buffer, and the capabilities agreed at the call
+abbrev pub contextOf : Layout → List ℕ → Usage → Context
+contextOf l s usage = record { usage = usage; capabilities = capabilitiesOf (header l s) }
+
+-- 6, 7 and 8 with the place: the first bad element refuses the call
+abbrev pub isStopped : Walked → Bool
+isStopped Done = false
+isStopped (Stopped bad place) = true
+
+abbrev pub faultOf : Walked → Fault
+faultOf Done = None
+faultOf (Stopped bad place) = Element bad place
+
+abbrev pub badElement : Context → List ℕ → Bool × Fault
+badElement k b = (isStopped (firstBad k b), faultOf (firstBad k b))
+
+-- 5, then the elements
+abbrev pub bufferTests : Layout → List ℕ → Usage → List ℕ → List (Bool × Fault)
+bufferTests l s usage b = (badLength b, Length) ∷ badElement (contextOf l s usage) b ∷ []
+
+-- "Supported: get and set state bit 0 (guest-wide; the vCPU id is then ignored)": the use of the buffer
+abbrev pub setUse : Bool → Usage
+setUse wide = cond wide GuestSet ThreadSet
+
+abbrev pub getUse : Bool → Usage
+getUse wide = cond wide GuestGet ThreadGet
+
+-- H_GUEST_SET_STATE: the whole buffer is judged, then its values are stored
+unfoldable pub setState : Layout → List ℕ → ℕ → ℕ → ℕ → List ℕ → Outcome
+setState l s flags guest vcpu b =
+    decide s []
+    (targetTests l s bit0 flags (hasBit0 flags) guest vcpu ++ bufferTests l s (setUse (hasBit0 flags)) b)
+    (accept 0 (applied (baseOf l s (hasBit0 flags) guest vcpu) b (countOf b) s))
+
+-- H_GUEST_GET_STATE: the whole buffer is judged, then its values are filled in
+abbrev pub fillWith : List ℕ → ℕ → List ℕ → Outcome
+fillWith s base b = record { answer = success 0; store = s; buffer = filled base s b (countOf b) }
+
+unfoldable pub getState : Layout → List ℕ → ℕ → ℕ → ℕ → List ℕ → Outcome
+getState l s flags guest vcpu b =
+    decide s b
+    (targetTests l s bit0 flags (hasBit0 flags) guest vcpu ++ bufferTests l s (getUse (hasBit0 flags)) b)
+    (fillWith s (baseOf l s (hasBit0 flags) guest vcpu) b)
+
+-- of one thread element, in a buffer that holds it alone: what the L1 cache reads
+abbrev pub gotElement : List ℕ → ℕ → ℕ → ℕ → List ℕ → Outcome
+gotElement s guest vcpu id v = getState small s 0 guest vcpu (message ((id, v) ∷ []))

@@ -1,0 +1,149 @@
+// Get state and set state. The whole buffer is judged before a byte of the store or of the buffer changes.
+use admission::Admission;
+use admission::Target;
+use admission::small_target;
+use admission::target_of;
+use answer::Answer;
+use answer::Fault;
+use answer::refusal;
+use answer::success;
+use elements::Context;
+use elements::Usage;
+use elements::number_of;
+use elements::thread_element;
+use gsb::Walked;
+use gsb::bad_length;
+use gsb::first_bad;
+use octets::copy;
+use store::Layout;
+use store::capabilities_of;
+use store::small_layout;
+use transfer::apply;
+use transfer::fill;
+ghost use mathlib.Core.Path.{_≡_};
+ghost use mathlib.Core.Bool.{true};
+ghost use mathlib.Core.List.{[]};
+ghost use Prim.Native.Nat.{_+_, _≤_, _<_};
+ghost use lib.ListN.{length};
+ghost use Rattle.octets.specs.Bytes.{bytesAt};
+ghost use Rattle.elements.specs.declared.Usage.the-variants.{ThreadGet};
+ghost use Rattle.elements.specs.Table.{kindOf, numberOf, threadElement};
+ghost use Rattle.elements.specs.Rules.{permits};
+ghost use Rattle.store.specs.Layout.{Sound, small};
+ghost use Rattle.admission.specs.Refusals.{Outcome, hasBit0};
+ghost use Rattle.state.specs.State.{setUse, setState, getUse, getState, gotElement};
+ghost use Rattle.state.specs.Private.{bufferGood, setAt, getAt, bytesFor};
+
+// Guest-wide.
+const BIT_0: u64 = 0x8000_0000_0000_0000;
+
+// 5, then the elements.
+fn judge_buffer(store: &[u8], l: Layout, usage: Usage, buffer: &[u8]) -> Admission
+    requires { ⌜ Sound l × (length (now store) ≡ l .size) ⌝ }
+    ensures { λ r. ⌜ r ≡ bufferGood l (now (store .entry)) usage (now (buffer .entry)) ⌝ }
+{
+    if bad_length(buffer) {
+        return Admission::Refused(Fault::Length);
+    }
+    let k = Context {
+        usage,
+        capabilities: capabilities_of(store, l),
+    };
+    match first_bad(buffer, k) {
+        Walked::Stopped(bad, place) => Admission::Refused(Fault::Element(bad, place)),
+        Walked::Done => Admission::Admitted,
+    }
+}
+
+// Bit 0: guest-wide.
+fn is_wide(flags: u64) -> bool
+    ensures { λ r. ⌜ r ≡ hasBit0 flags ⌝ }
+{
+    flags / 0x8000_0000_0000_0000 == 1
+}
+
+fn set_use(wide: bool) -> Usage
+    ensures { λ r. ⌜ r ≡ setUse wide ⌝ }
+{
+    if wide {
+        return Usage::GuestSet;
+    }
+    Usage::ThreadSet
+}
+
+fn set_at(store: &mut [u8], l: Layout, base: usize, usage: Usage, buffer: &[u8]) -> Answer
+    requires { ⌜ Sound l × (length (now store) ≡ l .size) × (base + bytesFor usage ≤ l .size) ⌝ }
+    ensures { λ r. ⌜ _≡_ {A = Outcome} (record { answer = r; store = now (store .exit); buffer = [] }) (setAt l (now (store .entry)) base usage (now (buffer .entry))) ⌝ }
+{
+    match judge_buffer(store, l, usage, buffer) {
+        Admission::Refused(fault) => return refusal(fault),
+        Admission::Admitted => {}
+    }
+    apply(store, base, buffer);
+    success(0)
+}
+
+// H_GUEST_SET_STATE.
+pub fn set_state(store: &mut [u8], flags: u64, guest: u64, vcpu: u64, buffer: &[u8]) -> Answer
+    ensures { λ r. ⌜ _≡_ {A = Outcome} (record { answer = r; store = now (store .exit); buffer = [] }) (setState small (now (store .entry)) flags guest vcpu (now (buffer .entry))) ⌝ }
+{
+    let l = small_layout();
+    let wide = is_wide(flags);
+    let target = small_target(store, l, BIT_0, flags, wide, guest as usize, vcpu as usize);
+    match target {
+        Target::Turned(fault) => refusal(fault),
+        Target::At(base) => set_at(store, l, base, set_use(wide), buffer),
+    }
+}
+
+fn get_use(wide: bool) -> Usage
+    ensures { λ r. ⌜ r ≡ getUse wide ⌝ }
+{
+    if wide {
+        return Usage::GuestGet;
+    }
+    Usage::ThreadGet
+}
+
+fn get_at(store: &[u8], l: Layout, base: usize, usage: Usage, buffer: &mut [u8]) -> Answer
+    requires { ⌜ Sound l × (length (now store) ≡ l .size) × (base + bytesFor usage ≤ l .size) ⌝ }
+    ensures { λ r. ⌜ _≡_ {A = Outcome} (record { answer = r; store = now (store .entry); buffer = now (buffer .exit) }) (getAt l (now (store .entry)) base usage (now (buffer .entry))) ⌝ }
+{
+    match judge_buffer(store, l, usage, buffer) {
+        Admission::Refused(fault) => return refusal(fault),
+        Admission::Admitted => {}
+    }
+    fill(store, base, buffer);
+    success(0)
+}
+
+// H_GUEST_GET_STATE.
+pub fn get_state(store: &[u8], flags: u64, guest: u64, vcpu: u64, buffer: &mut [u8]) -> Answer
+    ensures { λ r. ⌜ _≡_ {A = Outcome} (record { answer = r; store = now (store .entry); buffer = now (buffer .exit) }) (getState small (now (store .entry)) flags guest vcpu (now (buffer .entry))) ⌝ }
+{
+    let l = small_layout();
+    let wide = is_wide(flags);
+    let target = small_target(store, l, BIT_0, flags, wide, guest as usize, vcpu as usize);
+    match target {
+        Target::Turned(fault) => refusal(fault),
+        Target::At(base) => get_at(store, l, base, get_use(wide), buffer),
+    }
+}
+
+// H_GUEST_GET_STATE with a buffer of one element, for the L1 cache: the value comes straight from the slot.
+pub fn get_element(store: &[u8], guest: u64, vcpu: u64, id: u16, value: &mut [u8]) -> Answer
+    requires { ⌜ (permits (record { usage = ThreadGet; capabilities = 0 }) id (kindOf id) ≡ true) × (0 < id) × (length (now value) ≡ threadElement (numberOf id) .size) ⌝ }
+    ensures { λ r. ⌜ r ≡ gotElement (now (store .entry)) guest vcpu id (now (value .entry)) .answer ⌝ }
+    ensures { λ r. ⌜ now (value .exit) ≡ bytesAt (gotElement (now (store .entry)) guest vcpu id (now (value .entry)) .buffer) 8 (length (now (value .entry))) ⌝ }
+{
+    let l = small_layout();
+    let target = target_of(store, l, BIT_0, 0, false, guest as usize, vcpu as usize);
+    match target {
+        Target::Turned(fault) => refusal(fault),
+        Target::At(base) => {
+            let x = thread_element(number_of(id));
+            copy(store, base + x.position, value, 0, x.size);
+            success(0)
+        }
+    }
+}
