@@ -43,9 +43,8 @@ use Rattle.l1.specs.Private.{isChanged}
 use Rattle.l1.proofs.Marking.{values-long, marks-long}
 use Rattle.l1.proofs.Pending.{weighed}
 use Rattle.l1.proofs.Cells.{number-named, length-value}
-use Rattle.l1.proofs.Writes.{Fit}
-use Rattle.l1.proofs.Flush.{fit-append, fit-good}
-use Rattle.l1.proofs.Refresh.{returned-named, valued-ready}
+use Rattle.l1.proofs.Sent.{Fit, fit-append, fit-good}
+use Rattle.l1.proofs.Returned.{returned-named, valued-ready}
 
 -- ---- what a good cache sends
 module _ (c : Cache) (good : goodCache c ≡ true) where

@@ -1,4 +1,2 @@
 pub mod Cache
-pub mod Plain
-pub mod Agree
 pub mod Private

@@ -1,1 +1,2 @@
-// Theorems of the written rules of the L0, as l0/specs states them: no code, and nothing that the L0's own proofs use.
+// Theorems of the written rules of the calls, as the specs of admission, state, run and l0 state them: no code, and nothing that
+// the calls' own proofs use.

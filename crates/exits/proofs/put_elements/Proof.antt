@@ -4,9 +4,8 @@ use Rattle.exits.specs.Private.{exitAt}
 use Rattle.exits.specs.Exits.{weigh, valued}
 use Rattle.gsb.specs.Message.{elementsBytes}
 use Rattle.octets.specs.Bytes.{put}
-use lib.ListN.{take}
+use lib.ListN.{take, length}
 use Prim.Native.Nat.{_+_, _-_, _≤_}
-use lib.ListN.{length}
 use mathlib.Core.Path.{_≡_, refl}
 use borrow.Author.Needs.{needs}
 use Rattle.exits.proofs.put_elements.Statement.{statement}

@@ -5,8 +5,6 @@ use Rattle.exits.specs.Exits.{exits}
 use lib.ListN.{drop}
 use mathlib.Core.Path.{_≡_}
 use Prim.Native.Nat.{_+_, _-_, _≤_}
-use Prim.Native.Nat.{_+_, _-_, _≤_}
-use mathlib.Core.Path.{_≡_}
 use borrow.Author.Needs.{needs}
 use Rattle.exits.proofs.row_of.Statement.{statement}
 use Rattle.exits.proofs.row_of.Tie as tie

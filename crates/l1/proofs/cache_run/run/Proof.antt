@@ -2,7 +2,6 @@
 use mathlib.Core.Path.{refl}
 use Rattle.l1.proofs.Marking.{marks-long}
 use Rattle.l1.proofs.Running.{run-malformed, run-refused, run-admitted, good-true}
-use mathlib.Core.Path.{refl}
 use borrow.Author.Needs.{needs}
 use Rattle.l1.proofs.cache_run.run.Statement.{statement}
 use Rattle.l1.proofs.cache_run.run.Tie as tie

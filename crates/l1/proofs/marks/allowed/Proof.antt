@@ -1,6 +1,5 @@
 -- What a use permits, with no capability.
 use Rattle.l1.proofs.Marking.{allowed-as}
-use Rattle.l1.proofs.Marking.{allowed-as}
 use borrow.Author.Needs.{needs}
 use Rattle.l1.proofs.marks.allowed.Statement.{statement}
 use Rattle.l1.proofs.marks.allowed.Tie as tie

@@ -1,7 +1,6 @@
 -- By the definition.
 use Rattle.l1.specs.Cache.{isMarked}
 use mathlib.Core.Path.{refl}
-use mathlib.Core.Path.{refl}
 use borrow.Author.Needs.{needs}
 use Rattle.l1.proofs.marks.is_marked.Statement.{statement}
 use Rattle.l1.proofs.marks.is_marked.Tie as tie

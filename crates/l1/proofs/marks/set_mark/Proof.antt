@@ -3,8 +3,6 @@ use Rattle.l1.specs.Cache.{withMark}
 use Rattle.l1.proofs.Marking.{one-shifted}
 use Prim.Native.Nat.{_-_, _%_}
 use native.Mathlib.Omega.{arith}
-use Prim.Native.Nat.{_-_, _%_}
-use native.Mathlib.Omega.{arith}
 use borrow.Author.Needs.{needs}
 use Rattle.l1.proofs.marks.set_mark.Statement.{statement}
 use Rattle.l1.proofs.marks.set_mark.Tie as tie

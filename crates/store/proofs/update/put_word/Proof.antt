@@ -1,6 +1,5 @@
 -- Sixteen bits are two bytes: `word-put`.
-use Rattle.store.proofs.Writes.{word-fits}
-use Rattle.store.proofs.Writes.{word-put}
+use Rattle.store.proofs.Writes.{word-fits, word-put}
 use borrow.Author.Needs.{needs}
 use Rattle.store.proofs.update.put_word.Statement.{statement}
 use Rattle.store.proofs.update.put_word.Tie as tie

@@ -9,14 +9,14 @@ use Rattle.store.specs.Layout.{Sound, small}
 use Rattle.store.specs.Header.{header, slotOf}
 use Rattle.store.proofs.Small.{sound-small}
 use Rattle.run.specs.Run.{inputSize, outputSize}
 use Rattle.l1.specs.Cache.{Cache}
-use Rattle.l1.specs.Agree.{Op, Write, Read, Run, Other, Cached, cachedTurn, plainTurn, since, Agree, Allowed, Start}
-use Rattle.l1.proofs.Ours.{Ours, ours-base}
-use Rattle.l1.proofs.Invariant.{Inv, Goes, write-turn}
-use Rattle.l1.proofs.ReadTurn.{read-turn}
-use Rattle.l1.proofs.RunTurn.{run-turn}
-use Rattle.l1.proofs.OtherTurn.{other-turn}
-use Rattle.l1.proofs.Refresh.{empty-inv}
+use Rattle.agreement.specs.Agree.{Op, Write, Read, Run, Other, Cached, cachedTurn, plainTurn, since, Agree, Allowed, Start}
+use Rattle.agreement.proofs.Ours.{Ours, ours-base}
+use Rattle.agreement.proofs.Invariant.{Inv, Goes, write-turn}
+use Rattle.agreement.proofs.ReadTurn.{read-turn}
+use Rattle.agreement.proofs.RunTurn.{run-turn}
+use Rattle.agreement.proofs.OtherTurn.{other-turn}
+use Rattle.agreement.proofs.Refresh.{empty-inv}
 
 module _ (l : Layout) (so : Sound l) (g v j : ℕ) (below : j < l .slots) where
   -- one operation, whatever it is

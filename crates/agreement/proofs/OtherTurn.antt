@@ -17,11 +17,12 @@ use Rattle.promises.specs.History.{nameOf, registers}
 use Rattle.promises.specs.Apart.{Elsewhere}
 use Rattle.promises.proofs.Kept.{well-formed-kept}
 use Rattle.promises.proofs.Apart.{apart-slot, apart-values, apart-write}
-use Rattle.l1.specs.Agree.{Other, Cached, cachedTurn, plainTurn, since}
+use Rattle.agreement.specs.Agree.{Other, Cached, cachedTurn, plainTurn, since}
 use Rattle.l1.proofs.Cells.{input-named, named-end, number-named}
-use Rattle.l1.proofs.Writes.{Fit, placed, back}
-use Rattle.l1.proofs.Ours.{Ours, back-ours, values-value, values-input, values-output}
-use Rattle.l1.proofs.Invariant.{at, Inv, Goes, plain-ours}
+use Rattle.l1.proofs.Sent.{Fit}
+use Rattle.agreement.proofs.Writes.{placed, back}
+use Rattle.agreement.proofs.Ours.{Ours, back-ours, values-value, values-input, values-output}
+use Rattle.agreement.proofs.Invariant.{at, Inv, Goes, plain-ours}
 
 module _ (l : Layout) (so : Sound l) (g v j : ℕ) (below : j < l .slots) (c : Call) (far : Elsewhere g c) where
   abbrev place : ℕ

@@ -21,13 +21,13 @@ use Rattle.transfer.specs.Transfer.{filled}
 use Rattle.exits.specs.Exits.{elementOf}
 use Rattle.admission.specs.Refusals.{Outcome, success, refusal, refuse}
 use Rattle.state.specs.State.{fillWith, getState}
 use Rattle.l1.specs.Cache.{valid, isReadable, isSpecial, first, Got, keep, one, valueIn, fetched, readCache}
-use Rattle.l1.specs.Plain.{readPlain}
-use Rattle.l1.specs.Agree.{Read, Seen, seen, Turn, Cached, cachedTurn, plainTurn, since}
+use Rattle.agreement.specs.Plain.{readPlain}
+use Rattle.agreement.specs.Agree.{Read, Seen, seen, Turn, Cached, cachedTurn, plainTurn, since}
 use Rattle.l1.proofs.Cells.{Named, named-number, named-back, readable-named, readable-common, valueOf}
-use Rattle.l1.proofs.Single.{read-long, read-special, read-id, read-size, get-good, read-good, filled-value}
-use Rattle.l1.proofs.Caches.{cell, cell-is}
-use Rattle.l1.proofs.Invariant.{at, Inv, Goes, as-turned, plain-ours, cache-good, keep-inv, unchanged, unwritten}
+use Rattle.agreement.proofs.Single.{read-long, read-special, read-id, read-size, get-good, read-good, filled-value}
+use Rattle.agreement.proofs.Caches.{cell, cell-is}
+use Rattle.agreement.proofs.Invariant.{at, Inv, Goes, as-turned, plain-ours, cache-good, keep-inv, unchanged, unwritten}
 
 module _ (l : Layout) (so : Sound l) (g v j : ℕ) (below : j < l .slots) (b : Cached) (p : List ℕ) (ws : List (ℕ × List ℕ)) (i : Inv l so g v j below b p ws) (id : ℕ) (w : List ℕ) (small : id < 2 ^ 16) where
   abbrev place : ℕ

@@ -21,14 +21,15 @@ use Rattle.store.proofs.Search.{no-bool}
 use Rattle.exits.specs.Exits.{elementOf}
 use Rattle.admission.specs.Refusals.{Outcome, success, refusal, accept, refuse}
 use Rattle.run.specs.Run.{inputSize, outputSize}
 use Rattle.l1.specs.Cache.{Cache, valid, changed, isInput, isSpecial, goodCache, first, Wrote, change, writeCache, keep}
-use Rattle.l1.specs.Plain.{writePlain}
-use Rattle.l1.specs.Agree.{Op, Write, seen, Turn, Cached, cachedTurn, plainTurn, since, newest, Same}
+use Rattle.agreement.specs.Plain.{writePlain}
+use Rattle.agreement.specs.Agree.{Op, Write, seen, Turn, Cached, cachedTurn, plainTurn, since, newest, Same}
 use Rattle.l1.proofs.Cells.{Named, number-named, named-number, number-back, named-back, input-named, input-common, valueOf, value-same, value-other, length-value}
-use Rattle.l1.proofs.Writes.{Fit, placed, back, back-cons, newest-same, newest-other, Latest, none, some, latest, read-none}
-use Rattle.l1.proofs.Ours.{base, Ours, ours-room, back-ours}
-use Rattle.l1.proofs.Single.{write-long, write-special, write-id, write-size, write-good}
-use Rattle.l1.proofs.Caches.{cell, dueAt, keep-values, keep-marks, keep-same, keep-other, keep-valid, keep-valid-other, keep-changed, change-values, change-marks, change-same, change-other, change-valid, change-valid-other, change-changed, change-changed-other, well-formed}
+use Rattle.l1.proofs.Sent.{Fit}
+use Rattle.agreement.proofs.Writes.{placed, back, back-cons, newest-same, newest-other, Latest, none, some, latest, read-none}
+use Rattle.agreement.proofs.Ours.{base, Ours, ours-room, back-ours}
+use Rattle.agreement.proofs.Single.{write-long, write-special, write-id, write-size, write-good}
+use Rattle.agreement.proofs.Caches.{cell, dueAt, keep-values, keep-marks, keep-same, keep-other, keep-valid, keep-valid-other, keep-changed, change-values, change-marks, change-same, change-other, change-valid, change-valid-other, change-changed, change-changed-other, well-formed}
 
 module _ (l : Layout) (so : Sound l) (g v j : ℕ) (below : j < l .slots) where
   abbrev pub at : ℕ

@@ -21,9 +21,10 @@ use Rattle.admission.specs.Refusals.{bit0}
 use Rattle.admission.specs.Target.{targetTests, baseOf}
 use Rattle.run.specs.Run.{inputSize, outputSize}
 use Rattle.admission.proofs.Judging.{Passed}
 use Rattle.l1.specs.Cache.{isInput}
 use Rattle.l1.proofs.Cells.{Named, named-end, input-behind, valueOf}
-use Rattle.l1.proofs.Writes.{Fit, placed, back, back-keeps}
+use Rattle.l1.proofs.Sent.{Fit}
+use Rattle.agreement.proofs.Writes.{placed, back, back-keeps}
 
 module _ (l : Layout) (so : Sound l) (g v j : ℕ) (below-slots : j < l .slots) where
   -- where the vCPU's values start

@@ -40,15 +40,16 @@ use Rattle.admission.proofs.Judging.{begin-refused, begin-admitted, all-refused
 use Rattle.promises.proofs.Kept.{applied-header, applied-kept}
 use Rattle.promises.proofs.Lowest.{Real}
 use Rattle.promises.proofs.Used.{none-told}
 use Rattle.l1.specs.Cache.{Cache, pending, refreshed, Ran, ranWith, runCache}
-use Rattle.l1.specs.Plain.{runPlain}
-use Rattle.l1.specs.Agree.{Op, Run, seen, Turn, Cached, cachedTurn, plainTurn, since, inOrder}
-use Rattle.l1.proofs.Ours.{Ours, ours-base, ours-room, back-header, back-input, back-output}
-use Rattle.l1.proofs.Caches.{pending-due}
-use Rattle.l1.proofs.Invariant.{at, Inv, Goes, as-turned, plain-ours, cache-good}
-use Rattle.l1.proofs.Flush.{due-applied, due-good, due-need}
-use Rattle.l1.proofs.Refresh.{returned-named, refreshed-is, empty-inv, keep-all-inv}
-use Rattle.l1.proofs.Effects.{effect-input, effect-output}
+use Rattle.agreement.specs.Plain.{runPlain}
+use Rattle.agreement.specs.Agree.{Op, Run, seen, Turn, Cached, cachedTurn, plainTurn, since, inOrder}
+use Rattle.agreement.proofs.Ours.{Ours, ours-base, ours-room, back-header, back-input, back-output}
+use Rattle.agreement.proofs.Caches.{pending-due}
+use Rattle.agreement.proofs.Invariant.{at, Inv, Goes, as-turned, plain-ours, cache-good}
+use Rattle.agreement.proofs.Flush.{due-applied, due-good, due-need}
+use Rattle.l1.proofs.Returned.{returned-named}
+use Rattle.agreement.proofs.Refresh.{refreshed-is, empty-inv, keep-all-inv}
+use Rattle.agreement.proofs.Effects.{effect-input, effect-output}
 
 -- a run's fault is told alike with the cache and without
 run-told : (f : Fault) (n : ℕ) → told Name.CacheRun f n ≡ told Name.RunVcpu f n

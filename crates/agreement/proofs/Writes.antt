@@ -16,14 +16,10 @@ use Rattle.elements.specs.Table.{numberOf, threadElement}
 use Rattle.gsb.specs.Message.{elementBytes, elementsBytes}
 use Rattle.gsb.proofs.Messages.{length-element, elements-append}
 use Rattle.exits.specs.Exits.{elementOf}
 use Rattle.l1.specs.Cache.{isInput}
-use Rattle.l1.specs.Agree.{newest, inOrder}
+use Rattle.agreement.specs.Agree.{newest, inOrder}
+use Rattle.l1.proofs.Sent.{Fit}
 use Rattle.l1.proofs.Cells.{Named, number-back, named-number, named-back, input-named, places-apart, valueOf, value-other, weight}
-
--- each names an element that a run input takes, with a value of its size
-abbrev pub Fit : List (ℕ × List ℕ) → Type 0
-Fit [] = Unit {0}
-Fit (w ∷ ws) = (isInput (w .0) ≡ true) × (length (w .1) ≡ elementOf (w .0) .size) × Fit ws
 
 -- one written to the slot whose values start at base
 abbrev pub placed : ℕ → ℕ × List ℕ → List ℕ → List ℕ

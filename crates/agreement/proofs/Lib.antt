@@ -1,0 +1,15 @@
+pub mod MarkLaws
+pub mod Writes
+pub mod Ours
+pub mod Single
+pub mod Caches
+pub mod Invariant
+pub mod ReadTurn
+pub mod OtherTurn
+pub mod Flush
+pub mod Refresh
+pub mod Effects
+pub mod RunTurn
+pub mod CacheAgrees
+pub mod Example
+pub mod Unchanged
