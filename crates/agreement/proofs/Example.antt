@@ -11,7 +11,7 @@ use Rattle.store.specs.Search.{every, first}
 use Rattle.store.specs.Header.{header, capabilitiesOf, live, word, wordOf, isUsed, guestOf, holds, lacks, alone, slotGood, headGood, wordsGood, slotHolding, slotOf}
 use Rattle.store.specs.Store.{wellFormed, fresh}
 use Rattle.admission.specs.Target.{baseOf}
-use Rattle.l1.specs.Cache.{Cache}
+use Rattle.marks.specs.Marks.{Cache}
 use Rattle.agreement.specs.Agree.{Start}
 
 -- live bits, the zero byte and the first slot word; the two registrations at the start of slot 0

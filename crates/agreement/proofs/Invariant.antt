@@ -21,7 +21,8 @@ use Rattle.store.proofs.Search.{no-bool}
 use Rattle.exits.specs.Exits.{elementOf}
 use Rattle.admission.specs.Refusals.{Outcome, success, refusal, accept, refuse}
 use Rattle.run.specs.Run.{inputSize, outputSize}
-use Rattle.l1.specs.Cache.{Cache, valid, changed, isInput, isSpecial, goodCache, first, Wrote, change, writeCache, keep}
+use Rattle.marks.specs.Marks.{Cache, valid, changed, isInput, isSpecial, goodCache}
+use Rattle.l1.specs.Cache.{first, Wrote, change, writeCache, keep}
 use Rattle.agreement.specs.Plain.{writePlain}
 use Rattle.agreement.specs.Agree.{Op, Write, seen, Turn, Cached, cachedTurn, plainTurn, since, newest, Same}
 use Rattle.l1.proofs.Cells.{Named, number-named, named-number, number-back, named-back, input-named, input-common, valueOf, value-same, value-other, length-value}

@@ -19,7 +19,8 @@ use Rattle.transfer.proofs.Messages.{placeAll, place-nil, place-cons, applied-m
 use Rattle.exits.specs.Exits.{elementOf, valued}
 use Rattle.exits.proofs.Written.{length-valued}
 use Rattle.run.specs.Run.{inputSize, outputSize}
-use Rattle.l1.specs.Cache.{Cache, withMark, changed, keep, marked, refreshed}
+use Rattle.marks.specs.Marks.{Cache, withMark, changed}
+use Rattle.l1.specs.Cache.{keep, marked, refreshed}
 use Rattle.agreement.specs.Agree.{Cached, newest}
 use Rattle.agreement.proofs.MarkLaws.{mark-none}
 use Rattle.l1.proofs.Returned.{AllNamed, valued-id, valued-wire}

@@ -40,7 +40,8 @@ use Rattle.admission.proofs.Judging.{begin-refused, begin-admitted, all-refused
 use Rattle.promises.proofs.Kept.{applied-header, applied-kept}
 use Rattle.promises.proofs.Lowest.{Real}
 use Rattle.promises.proofs.Used.{none-told}
-use Rattle.l1.specs.Cache.{Cache, pending, refreshed, Ran, ranWith, runCache}
+use Rattle.marks.specs.Marks.{Cache}
+use Rattle.l1.specs.Cache.{pending, refreshed, Ran, ranWith, runCache}
 use Rattle.agreement.specs.Plain.{runPlain}
 use Rattle.agreement.specs.Agree.{Op, Run, seen, Turn, Cached, cachedTurn, plainTurn, since, inOrder}
 use Rattle.agreement.proofs.Ours.{Ours, ours-base, ours-room, back-header, back-input, back-output}

@@ -23,7 +23,8 @@ use Rattle.run.specs.Run.{cachedTests, cachedGood, ran, runVcpu}
 use Rattle.l0.specs.Calls.{GetState, outcome}
 use Rattle.promises.proofs.Kept.{Unchanged, refused-unchanged}
 use Rattle.promises.proofs.Used.{none-told}
-use Rattle.l1.specs.Cache.{Cache, valid, isInput, isReadable, goodCache, valueTests, Wrote, change, writeCache, Got, keep, one, valueIn, fetched, readCache, pending, Ran, ranWith, runCache}
+use Rattle.marks.specs.Marks.{Cache, valid, isInput, isReadable, goodCache}
+use Rattle.l1.specs.Cache.{valueTests, Wrote, change, writeCache, Got, keep, one, valueIn, fetched, readCache, pending, Ran, ranWith, runCache}
 use Rattle.l1.proofs.Running.{passed-judged, run-accepted}
 
 -- ---- write

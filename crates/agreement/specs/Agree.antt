@@ -22,7 +22,8 @@ use Rattle.run.specs.Run.{inputSize, outputSize}
 use Rattle.l0.specs.Calls.{Call, outcome}
 use Rattle.promises.specs.History.{registers}
 use Rattle.promises.specs.Apart.{Elsewhere}
-use Rattle.l1.specs.Cache.{Cache, valueIn, writeCache, readCache, runCache}
+use Rattle.marks.specs.Marks.{Cache}
+use Rattle.l1.specs.Cache.{valueIn, writeCache, readCache, runCache}
 use Rattle.agreement.specs.Plain.{writePlain, readPlain, runPlain}
 
 -- ---- an operation on the L1: a cache write, read or run of the vCPU, or a call on another guest

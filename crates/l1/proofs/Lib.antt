@@ -1,6 +1,4 @@
-pub mod Marking
 pub mod Values
-pub mod Words
 pub mod Pending
 pub mod Refreshing
 pub mod Reading

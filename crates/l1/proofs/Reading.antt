@@ -30,7 +30,8 @@ use Rattle.admission.specs.declared.Admission.the-variants.{Admitted, Refused}
 use Rattle.admission.specs.Refusals.{success, refusal, judgement}
 use Rattle.state.specs.State.{gotElement}
 use Rattle.admission.proofs.Judging.{all-refused, all-admitted}
-use Rattle.l1.specs.Cache.{Cache, isMarked, allowed, isReadable, isSpecial, Got, accepted, keep, fetched, readCache}
+use Rattle.marks.specs.Marks.{Cache, isMarked, allowed, isReadable, isSpecial}
+use Rattle.l1.specs.Cache.{Got, accepted, keep, fetched, readCache}
 use Rattle.l1.specs.Private.{elementTests, elementGood, readValue}
 use Rattle.l1.proofs.Values.{number-inside, readable-thread, thread-number}
 

@@ -1,34 +1,19 @@
--- The cache after a run: the laws of the loops that clear the marks and set those of the output's elements. Assumes nothing.
+-- The cache after a run: the laws of the loop that marks the output's elements. Assumes nothing.
 use mathlib.Core.Path.{_≡_, refl, sym, ap, ap₂, _∙_, subst}
-use mathlib.Core.List.{List, _++_, append-nil}
+use mathlib.Core.List.{List}
 use Prim.Native.Nat.{ℕ, _+_, _^_, _≤_, _<_}
 use native.Mathlib.Numerals.{add-one}
 use native.Mathlib.Omega.{arith}
-use lib.ListN.{length, drop, set}
-use lib.Seq.{drop-length}
-use borrow.Author.Fill.{fill-none, fill-more}
+use lib.ListN.{length}
 use Rattle.octets.specs.Bytes.{zeros}
 use Rattle.elements.specs.Table.{numberOf}
 use Rattle.gsb.specs.Walk.{countOf, idAt, sizeAt, offsetAt}
 use Rattle.gsb.proofs.Walks.{offset-next}
 use Rattle.transfer.specs.Transfer.{applied, Ready, AllReady}
 use Rattle.transfer.proofs.Moving.{ready-at}
-use Rattle.l1.specs.Cache.{Cache, withMark, marked, refreshed}
+use Rattle.marks.specs.Marks.{Cache, withMark}
+use Rattle.l1.specs.Cache.{marked, refreshed}
 use Rattle.l1.proofs.Values.{few}
-
--- ---- the marks cleared
-pub clear-start : (m : List ℕ) → m ≡ zeros 0 ++ drop 0 m
-unfolding zeros
-clear-start m = fill-none m 0
-
-pub clear-turn : (m x y : List ℕ) (i : ℕ) → x ≡ zeros i ++ drop i m → y ≡ set x i 0 → length m ≡ 6 → i < 6 → y ≡ zeros (i + 1) ++ drop (i + 1) m
-unfolding zeros
-clear-turn m x y i e h l k = h ∙ ap (λ (z : List ℕ). set z i 0) e ∙ fill-more i 0 m (omega arith)
-
-pub clear-end : (m x : List ℕ) (i : ℕ) → x ≡ zeros i ++ drop i m → length m ≡ 6 → i ≤ 6 → 6 ≤ i → x ≡ zeros 6
-clear-end m x i e l a b =
-    let q : i ≡ 6 = omega arith in
-    e ∙ ap (λ (n : ℕ). zeros n ++ drop n m) q ∙ ap (λ (n : ℕ). zeros 6 ++ drop n m) (sym l) ∙ ap (λ (z : List ℕ). zeros 6 ++ z) (drop-length m) ∙ append-nil (zeros 6)
 
 -- ---- the elements of a buffer marked
 module _ (b : List ℕ) (count i at : ℕ) (r : AllReady 0 b 1820) (c : count ≡ countOf b) (h : i < count) (o : at ≡ offsetAt b i) where

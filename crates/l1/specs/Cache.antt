@@ -1,10 +1,9 @@
--- 01, "The L1 cache": the cache, and its write, read and run, each with its refusals in order.
-use Prim.Native.Nat.{ℕ, zero, suc, _+_, _-_, _/_, _%_, _^_}
-use mathlib.Core.Bool.{Bool, not, _&&_, _||_, cond}
+-- 01, "The L1 cache": its write, read and run, each with its refusals in order.
+use Prim.Native.Nat.{ℕ, zero, suc, _+_}
+use mathlib.Core.Bool.{Bool, not, cond}
 use mathlib.Core.List.{List, [], _∷_, _++_}
-use lib.Bits.{bitOr}
 use lib.Dec.{eqb, ltb}
-use lib.ListN.{length, getD, set}
+use lib.ListN.{length}
 use Rattle.octets.specs.Bytes.{bytesAt, put, zeros}
 use Rattle.answer.specs.declared.Bad.the-variants.{Id, Size}
 use Rattle.answer.specs.declared.Place.{Place}
@@ -15,60 +14,16 @@ use Rattle.answer.specs.declared.Call.{Call}
 use Rattle.answer.specs.declared.Call.the-variants.{CacheRead}
 use Rattle.answer.specs.Answer.{told}
 use Rattle.answer.specs.Refusals.{firstOf}
-use Rattle.elements.specs.declared.Usage.{Usage}
-use Rattle.elements.specs.declared.Usage.the-variants.{ThreadGet, RunInput}
-use Rattle.elements.specs.Table.{kindOf, numberOf, threadElement}
-use Rattle.elements.specs.Rules.{between, permits}
+use Rattle.elements.specs.Table.{numberOf, threadElement}
 use Rattle.gsb.specs.Walk.{countOf, idAt, offsetAt}
 use Rattle.gsb.specs.Message.{message}
 use Rattle.store.specs.declared.Layout.{Layout}
-use Rattle.store.specs.Layout.{slotBytes}
-use Rattle.store.specs.Search.{every}
 use Rattle.transfer.specs.Transfer.{applied}
 use Rattle.exits.specs.Exits.{elementOf, valued}
 use Rattle.admission.specs.Refusals.{Outcome, success, refusal}
 use Rattle.state.specs.State.{getState}
 use Rattle.run.specs.Run.{cachedTests, runVcpu}
-
--- "1,820 value bytes", laid out as a slot's, "and six lent 64-bit words: three of valid marks, three of changed marks"
-pub record Cache : Type 0 where
-  pub values : List ℕ
-  pub marks : List ℕ
-
--- "Thread element e (0 to 169 in order of ID) is bit e mod 64, from the most significant, of word e div 64": mark i of all six words
-unfoldable pub isMarked : List ℕ → ℕ → Bool
-isMarked m i = eqb (getD m (i / 64) 0 / 2 ^ (63 - i % 64) % 2) 1
-
-unfoldable pub withMark : List ℕ → ℕ → List ℕ
-withMark m i = set m (i / 64) (bitOr (getD m (i / 64) 0) (2 ^ (63 - i % 64)))
-
-abbrev pub valid : Cache → ℕ → Bool
-valid c e = isMarked (c .marks) e
-
-abbrev pub changed : Cache → ℕ → Bool
-changed c e = isMarked (c .marks) (192 + e)
-
--- what a use permits depends on no capability
-abbrev pub allowed : Usage → ℕ → Bool
-allowed usage id = permits (record { usage = usage; capabilities = 0 }) id (kindOf id)
-
--- "6 unless permitted in a run input (NOP too is 6)"
-unfoldable pub isInput : ℕ → Bool
-isInput id = not (eqb id 0x0000) && allowed RunInput id
-
--- "6 unless readable in a thread get and not 0x0C00, 0x0C01 or the NOP"
-abbrev pub isSpecial : ℕ → Bool
-isSpecial id = eqb id 0x0000 || between 0x0C00 0x0C01 id
-
-unfoldable pub isReadable : ℕ → Bool
-isReadable id = not (isSpecial id) && allowed ThreadGet id
-
--- "Well formed: right lengths, no mark past 169, every changed element valid and permitted in a run input. Empty: all marks 0."
-unfoldable pub markGood : Cache → ℕ → Bool
-markGood c e = cond (ltb e 170) (not (changed c e) || (valid c e && isInput (threadElement e .id))) (not (valid c e) && not (changed c e))
-
-unfoldable pub goodCache : Cache → Bool
-goodCache c = eqb (length (c .values)) slotBytes && (eqb (length (c .marks)) 6 && every (markGood c) 192 0)
+use Rattle.marks.specs.Marks.{Cache, withMark, valid, changed, isInput, isReadable, goodCache}
 
 -- ---- "Write: 15; 5 for a value over 65,528 bytes; 6 ..; 7. It stores the value, valid and changed." "Place is 0."
 abbrev pub first : Place

@@ -1,6 +1,4 @@
 // A read of one element into a lent buffer: from the cache where it is valid, else from get state, and then it is kept.
-use super::marks::is_marked;
-use super::marks::is_readable;
 use super::value::element_of;
 use super::value::judge_element;
 use super::value::keep_value;
@@ -11,6 +9,8 @@ use answer::refusal;
 use answer::registers_of;
 use answer::success;
 use elements::number_of;
+use marks::is_marked;
+use marks::is_readable;
 use octets::copy;
 use state::get_element;
 ghost use mathlib.Core.Path.{_≡_};
@@ -19,7 +19,8 @@ ghost use lib.ListN.{length};
 ghost use Rattle.store.specs.Layout.{small};
 ghost use Rattle.exits.specs.Exits.{elementOf};
 ghost use Rattle.state.specs.State.{gotElement};
-ghost use Rattle.l1.specs.Cache.{Got, isReadable, accepted, fetched, readCache};
+ghost use Rattle.marks.specs.Marks.{isReadable};
+ghost use Rattle.l1.specs.Cache.{Got, accepted, fetched, readCache};
 ghost use Rattle.l1.specs.Private.{readValue};
 
 fn is_accepted(call: Call, answer: Answer) -> bool

@@ -1,12 +1,12 @@
 // A run. Everything is judged before a byte of the store, of the cache or of a buffer changes.
 use super::input::bytes_needed;
 use super::input::put_input;
-use super::marks::good_cache;
 use super::output::refresh;
 use admission::Admission;
 use answer::Answer;
 use answer::Fault;
 use answer::refusal;
+use marks::good_cache;
 use run::judge_cached;
 use run::run_vcpu;
 ghost use mathlib.Core.Path.{_≡_};
@@ -16,7 +16,8 @@ ghost use Rattle.gsb.specs.Message.{message};
 ghost use Rattle.admission.specs.declared.Admission.the-variants.{Admitted};
 ghost use Rattle.run.specs.Run.{cachedGood};
 ghost use Rattle.store.specs.Layout.{small};
-ghost use Rattle.l1.specs.Cache.{goodCache, pending, Ran, runCache};
+ghost use Rattle.marks.specs.Marks.{goodCache};
+ghost use Rattle.l1.specs.Cache.{pending, Ran, runCache};
 
 // The changed elements are sent, the vCPU runs, and the cache keeps what the output holds: past all the tests.
 fn send(

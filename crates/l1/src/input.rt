@@ -1,9 +1,9 @@
 // What a run sends: a count and the changed elements, in order of ID, at the input's first bytes.
 // Marks 192 to 361 are the changed marks of elements 0 to 169.
-use super::marks::changed_count;
-use super::marks::next_mark;
 use elements::thread_element;
 use gsb::put_element;
+use marks::changed_count;
+use marks::next_mark;
 use octets::put32;
 ghost use mathlib.Core.Path.{_≡_};
 ghost use mathlib.Core.Bool.{true};
@@ -12,8 +12,9 @@ ghost use lib.ListN.{length};
 ghost use Rattle.octets.specs.Bytes.{put};
 ghost use Rattle.gsb.specs.Message.{elementsBytes, message};
 ghost use Rattle.exits.specs.Exits.{rowBytes, valued};
-ghost use Rattle.l1.specs.Cache.{goodCache, chosen, pending};
-ghost use Rattle.l1.specs.Private.{isChanged};
+ghost use Rattle.marks.specs.Marks.{goodCache};
+ghost use Rattle.l1.specs.Cache.{chosen, pending};
+ghost use Rattle.marks.specs.Private.{isChanged};
 
 // How many bytes that takes.
 pub fn bytes_needed(marks: &[u64]) -> usize

@@ -1,11 +1,10 @@
 // The L1 cache: a vCPU's values kept by the L1, with marks of which are valid and which changed since the last run.
-// `marks` holds the marks and the test of a cache, `value` what a write and a read share, `input` and `output` what a run sends and
+// `value` holds what a write and a read share, `input` and `output` what a run sends and
 // gets; then the operations.
 mod cache_read;
 mod cache_run;
 mod cache_write;
 mod input;
-mod marks;
 mod output;
 mod value;
 

@@ -1,7 +1,7 @@
 // What a run's output does to the cache: its elements are valid with its values, and nothing else is.
-use super::marks::clear_marks;
-use super::marks::set_mark;
 use elements::number_of;
+use marks::clear_marks;
+use marks::set_mark;
 use octets::get16;
 use octets::get32;
 use transfer::apply;
@@ -9,7 +9,8 @@ ghost use mathlib.Core.Path.{_≡_};
 ghost use lib.ListN.{length};
 ghost use Rattle.gsb.specs.Walk.{countOf};
 ghost use Rattle.transfer.specs.Transfer.{AllReady};
-ghost use Rattle.l1.specs.Cache.{Cache, marked, refreshed};
+ghost use Rattle.marks.specs.Marks.{Cache};
+ghost use Rattle.l1.specs.Cache.{marked, refreshed};
 
 fn mark_elements(marks: &mut [u64], b: &[u8])
     requires { ⌜ (length (now marks) ≡ 6) × AllReady 0 (now b) 1820 ⌝ }

@@ -1,6 +1,4 @@
 // What a write and a read of one element share: its tests, and its place in the cache.
-use super::marks::good_cache;
-use super::marks::set_mark;
 use admission::Admission;
 use answer::Bad;
 use answer::Fault;
@@ -8,13 +6,16 @@ use answer::Place;
 use elements::Element;
 use elements::number_of;
 use elements::thread_element;
+use marks::good_cache;
+use marks::set_mark;
 use octets::copy;
 ghost use mathlib.Core.Path.{_≡_};
 ghost use Prim.Native.Nat.{_<_};
 ghost use lib.ListN.{length};
 ghost use Rattle.elements.specs.Table.{numberOf};
 ghost use Rattle.exits.specs.Exits.{elementOf};
-ghost use Rattle.l1.specs.Cache.{Cache, change, keep};
+ghost use Rattle.marks.specs.Marks.{Cache};
+ghost use Rattle.l1.specs.Cache.{change, keep};
 ghost use Rattle.l1.specs.Private.{elementGood};
 
 // The thread element that an ID names; of no bytes where it names none.

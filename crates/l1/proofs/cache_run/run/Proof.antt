@@ -1,6 +1,6 @@
 -- By how far the tests came (`run-..` of Running).
 use mathlib.Core.Path.{refl}
-use Rattle.l1.proofs.Marking.{marks-long}
+use Rattle.marks.proofs.Marking.{marks-long}
 use Rattle.l1.proofs.Running.{run-malformed, run-refused, run-admitted, good-true}
 use borrow.Author.Needs.{needs}
 use Rattle.l1.proofs.cache_run.run.Statement.{statement}

@@ -2,8 +2,9 @@
 use Rattle.l1.proofs.Pending.{reached, mark-here, mark-next, walk-start, walk-at, walk-fits, walk-end, element-fits}
 use Rattle.exits.specs.Exits.{weigh}
 use Rattle.store.specs.Search.{first}
-use Rattle.l1.specs.Cache.{isMarked, chosen}
-use Rattle.l1.specs.Private.{isChanged}
+use Rattle.marks.specs.Marks.{isMarked}
+use Rattle.l1.specs.Cache.{chosen}
+use Rattle.marks.specs.Private.{isChanged}
 use Prim.Native.Nat.{_+_, _-_, _≤_}
 use mathlib.Core.Path.{_≡_}
 use borrow.Author.Needs.{needs}

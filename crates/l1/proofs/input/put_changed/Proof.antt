@@ -4,8 +4,9 @@ use Rattle.octets.specs.Bytes.{put}
 use Rattle.gsb.specs.Message.{elementsBytes}
 use Rattle.exits.specs.Exits.{weigh, valued}
 use Rattle.store.specs.Search.{first}
-use Rattle.l1.specs.Cache.{isMarked, chosen}
-use Rattle.l1.specs.Private.{isChanged}
+use Rattle.marks.specs.Marks.{isMarked}
+use Rattle.l1.specs.Cache.{chosen}
+use Rattle.marks.specs.Private.{isChanged}
 use Prim.Native.Nat.{_+_, _-_, _≤_}
 use lib.ListN.{length}
 use mathlib.Core.Path.{_≡_}

@@ -1,13 +1,13 @@
 -- The invariant is the test that is left.
-use Rattle.l1.proofs.Marking.{good-values, good-marks, good-start, good-bad, good-turn, good-end}
+use Rattle.marks.proofs.Marking.{good-values, good-marks, good-start, good-bad, good-turn, good-end}
 use Rattle.store.specs.Search.{every}
-use Rattle.l1.specs.Cache.{markGood, goodCache}
+use Rattle.marks.specs.Marks.{markGood, goodCache}
 use Prim.Native.Nat.{_-_, _≤_}
 use lib.ListN.{length}
 use mathlib.Core.Path.{_≡_}
 use borrow.Author.Needs.{needs}
-use Rattle.l1.proofs.marks.good_cache.Statement.{statement}
-use Rattle.l1.proofs.marks.good_cache.Tie as tie
+use Rattle.marks.proofs.good_cache.Statement.{statement}
+use Rattle.marks.proofs.good_cache.Tie as tie
 
 abbrev Inv-loop : tie.InvT-loop
 Inv-loop values marks e₀ e = (e ≤ 192) × (length marks ≡ 6) × (goodCache (record { values = values; marks = marks }) ≡ every (markGood (record { values = values; marks = marks })) (192 - e) e)

@@ -1,8 +1,8 @@
 -- The three that are never read, then what a thread get permits.
-use Rattle.l1.proofs.Marking.{readable-nop, readable-input, readable-output, readable-as}
+use Rattle.marks.proofs.Marking.{readable-nop, readable-input, readable-output, readable-as}
 use borrow.Author.Needs.{needs}
-use Rattle.l1.proofs.marks.is_readable.Statement.{statement}
-use Rattle.l1.proofs.marks.is_readable.Tie as tie
+use Rattle.marks.proofs.is_readable.Statement.{statement}
+use Rattle.marks.proofs.is_readable.Tie as tie
 
 returns : tie.Need-returns
 returns c = search (needs, readable-nop)

@@ -1,8 +1,8 @@
 -- The NOP, then what a run input permits.
-use Rattle.l1.proofs.Marking.{input-nop, input-as}
+use Rattle.marks.proofs.Marking.{input-nop, input-as}
 use borrow.Author.Needs.{needs}
-use Rattle.l1.proofs.marks.is_input.Statement.{statement}
-use Rattle.l1.proofs.marks.is_input.Tie as tie
+use Rattle.marks.proofs.is_input.Statement.{statement}
+use Rattle.marks.proofs.is_input.Tie as tie
 
 returns : tie.Need-returns
 returns c = search (needs, input-nop)

@@ -1,11 +1,11 @@
 -- One bit in place (`one-shifted`).
-use Rattle.l1.specs.Cache.{withMark}
-use Rattle.l1.proofs.Marking.{one-shifted}
+use Rattle.marks.specs.Marks.{withMark}
+use Rattle.marks.proofs.Marking.{one-shifted}
 use Prim.Native.Nat.{_-_, _%_}
 use native.Mathlib.Omega.{arith}
 use borrow.Author.Needs.{needs}
-use Rattle.l1.proofs.marks.set_mark.Statement.{statement}
-use Rattle.l1.proofs.marks.set_mark.Tie as tie
+use Rattle.marks.proofs.set_mark.Statement.{statement}
+use Rattle.marks.proofs.set_mark.Tie as tie
 
 mul-m : tie.Need-mul-m
 mul-m c = search needs

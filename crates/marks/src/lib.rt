@@ -10,8 +10,8 @@ ghost use Prim.Native.Nat.{_-_, _≤_, _<_};
 ghost use lib.ListN.{length};
 ghost use Rattle.octets.specs.Bytes.{zeros};
 ghost use Rattle.store.specs.Search.{first, tally};
-ghost use Rattle.l1.specs.Private.{isChanged};
-ghost use Rattle.l1.specs.Cache.{isMarked, withMark, isInput, isReadable, markGood, goodCache, allowed};
+ghost use Rattle.marks.specs.Private.{isChanged};
+ghost use Rattle.marks.specs.Marks.{isMarked, withMark, isInput, isReadable, markGood, goodCache, allowed};
 
 pub fn is_marked(m: &[u64], i: usize) -> bool
     requires { ⌜ (length (now m) ≡ 6) × (i < 384) ⌝ }

@@ -1,13 +1,13 @@
 -- The words before i are cleared.
-use Rattle.l1.proofs.Refreshing.{clear-start, clear-turn, clear-end}
+use Rattle.marks.proofs.Clearing.{clear-start, clear-turn, clear-end}
 use Rattle.octets.specs.Bytes.{zeros}
 use mathlib.Core.List.{_++_}
 use mathlib.Core.Path.{_≡_, refl}
 use Prim.Native.Nat.{_-_, _≤_}
 use lib.ListN.{length, drop}
 use borrow.Author.Needs.{needs}
-use Rattle.l1.proofs.marks.clear_marks.Statement.{statement}
-use Rattle.l1.proofs.marks.clear_marks.Tie as tie
+use Rattle.marks.proofs.clear_marks.Statement.{statement}
+use Rattle.marks.proofs.clear_marks.Tie as tie
 
 abbrev Inv-loop : tie.InvT-loop
 Inv-loop m₀ i₀ m i = (i ≤ 6) × (length m ≡ length m₀) × (m ≡ zeros i ++ drop i m₀)

@@ -16,8 +16,8 @@ use lib.ListN.{getD}
 use borrow.Author.Tests.{eq-eqb}
 use Rattle.store.specs.Search.{first, tally}
 use Rattle.store.proofs.Search.{first-bounds, found-first, tally-ext}
-use Rattle.l1.specs.Cache.{isMarked}
-use Rattle.l1.specs.Private.{isChanged}
+use Rattle.marks.specs.Marks.{isMarked}
+use Rattle.marks.specs.Private.{isChanged}
 
 -- digit j of a word of 64, from the most significant
 abbrev digit : ℕ → ℕ → ℕ

@@ -20,7 +20,7 @@ use Rattle.store.specs.Layout.{slotBytes}
 use Rattle.store.specs.Search.{every}
 use Rattle.store.proofs.Loops.{every-past, every-out, every-end}
 use Rattle.store.proofs.Search.{both}
-use Rattle.l1.specs.Cache.{Cache, isMarked, valid, changed, allowed, isInput, isReadable, markGood, goodCache}
+use Rattle.marks.specs.Marks.{Cache, isMarked, valid, changed, allowed, isInput, isReadable, markGood, goodCache}
 
 pub one-shifted : (k : ℕ) → k < 64 → 1 * 2 ^ k % 2 ^ 64 ≡ 2 ^ k
 one-shifted k h = shl-exact 1 k 64 (lit< tt) (omega arith) ∙ one-mul (2 ^ k)

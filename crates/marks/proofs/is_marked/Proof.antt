@@ -1,9 +1,9 @@
 -- By the definition.
-use Rattle.l1.specs.Cache.{isMarked}
+use Rattle.marks.specs.Marks.{isMarked}
 use mathlib.Core.Path.{refl}
 use borrow.Author.Needs.{needs}
-use Rattle.l1.proofs.marks.is_marked.Statement.{statement}
-use Rattle.l1.proofs.marks.is_marked.Tie as tie
+use Rattle.marks.proofs.is_marked.Statement.{statement}
+use Rattle.marks.proofs.is_marked.Tie as tie
 
 mul-result : tie.Need-mul-result
 mul-result c = search needs

@@ -1,13 +1,13 @@
 -- No mark from `from` to i is set: the first one is the first from i on.
-use Rattle.l1.proofs.Words.{zeros-fit, place-fits, next-hit, next-miss, next-end, hit-above, hit-within}
+use Rattle.marks.proofs.Words.{zeros-fit, place-fits, next-hit, next-miss, next-end, hit-above, hit-within}
 use Rattle.store.specs.Search.{first}
-use Rattle.l1.specs.Cache.{isMarked}
+use Rattle.marks.specs.Marks.{isMarked}
 use lib.ListN.{length}
 use Prim.Native.Nat.{_-_, _≤_}
 use mathlib.Core.Path.{_≡_, refl}
 use borrow.Author.Needs.{needs}
-use Rattle.l1.proofs.marks.next_mark.Statement.{statement}
-use Rattle.l1.proofs.marks.next_mark.Tie as tie
+use Rattle.marks.proofs.next_mark.Statement.{statement}
+use Rattle.marks.proofs.next_mark.Tie as tie
 
 abbrev Inv-loop : tie.InvT-loop
 Inv-loop m from i₀ i = (from ≤ i) × (i ≤ 384) × (length m ≡ 6) × (first (isMarked m) (384 - from) from ≡ first (isMarked m) (384 - i) i)

@@ -1,9 +1,9 @@
 -- Each word is counted by its ones (`count-words`).
-use Rattle.l1.proofs.Words.{count-words, ones-few}
+use Rattle.marks.proofs.Words.{count-words, ones-few}
 use native.Mathlib.Omega.{arith}
 use borrow.Author.Needs.{needs}
-use Rattle.l1.proofs.marks.changed_count.Statement.{statement}
-use Rattle.l1.proofs.marks.changed_count.Tie as tie
+use Rattle.marks.proofs.changed_count.Statement.{statement}
+use Rattle.marks.proofs.changed_count.Tie as tie
 
 shared-slice-read-result : tie.Need-shared-slice-read-result
 shared-slice-read-result c = search needs

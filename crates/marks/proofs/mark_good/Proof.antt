@@ -1,8 +1,8 @@
 -- By the two marks of the number.
-use Rattle.l1.proofs.Marking.{mark-past, mark-still, mark-changed}
+use Rattle.marks.proofs.Marking.{mark-past, mark-still, mark-changed}
 use borrow.Author.Needs.{needs}
-use Rattle.l1.proofs.marks.mark_good.Statement.{statement}
-use Rattle.l1.proofs.marks.mark_good.Tie as tie
+use Rattle.marks.proofs.mark_good.Statement.{statement}
+use Rattle.marks.proofs.mark_good.Tie as tie
 
 is-marked-requires : tie.Need-is-marked-requires
 is-marked-requires c κs = search needs

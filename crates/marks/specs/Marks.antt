@@ -1,0 +1,53 @@
+-- 01, "The L1 cache": the cache, its marks, and when it is well formed.
+use Prim.Native.Nat.{ℕ, _+_, _-_, _/_, _%_, _^_}
+use mathlib.Core.Bool.{Bool, not, _&&_, _||_, cond}
+use mathlib.Core.List.{List}
+use lib.Bits.{bitOr}
+use lib.Dec.{eqb, ltb}
+use lib.ListN.{length, getD, set}
+use Rattle.elements.specs.declared.Usage.{Usage}
+use Rattle.elements.specs.declared.Usage.the-variants.{ThreadGet, RunInput}
+use Rattle.elements.specs.Table.{kindOf, threadElement}
+use Rattle.elements.specs.Rules.{between, permits}
+use Rattle.store.specs.Layout.{slotBytes}
+use Rattle.store.specs.Search.{every}
+
+-- "1,820 value bytes", laid out as a slot's, "and six lent 64-bit words: three of valid marks, three of changed marks"
+pub record Cache : Type 0 where
+  pub values : List ℕ
+  pub marks : List ℕ
+
+-- "Thread element e (0 to 169 in order of ID) is bit e mod 64, from the most significant, of word e div 64": mark i of all six words
+unfoldable pub isMarked : List ℕ → ℕ → Bool
+isMarked m i = eqb (getD m (i / 64) 0 / 2 ^ (63 - i % 64) % 2) 1
+
+unfoldable pub withMark : List ℕ → ℕ → List ℕ
+withMark m i = set m (i / 64) (bitOr (getD m (i / 64) 0) (2 ^ (63 - i % 64)))
+
+abbrev pub valid : Cache → ℕ → Bool
+valid c e = isMarked (c .marks) e
+
+abbrev pub changed : Cache → ℕ → Bool
+changed c e = isMarked (c .marks) (192 + e)
+
+-- what a use permits depends on no capability
+abbrev pub allowed : Usage → ℕ → Bool
+allowed usage id = permits (record { usage = usage; capabilities = 0 }) id (kindOf id)
+
+-- "6 unless permitted in a run input (NOP too is 6)"
+unfoldable pub isInput : ℕ → Bool
+isInput id = not (eqb id 0x0000) && allowed RunInput id
+
+-- "6 unless readable in a thread get and not 0x0C00, 0x0C01 or the NOP"
+abbrev pub isSpecial : ℕ → Bool
+isSpecial id = eqb id 0x0000 || between 0x0C00 0x0C01 id
+
+unfoldable pub isReadable : ℕ → Bool
+isReadable id = not (isSpecial id) && allowed ThreadGet id
+
+-- "Well formed: right lengths, no mark past 169, every changed element valid and permitted in a run input. Empty: all marks 0."
+unfoldable pub markGood : Cache → ℕ → Bool
+markGood c e = cond (ltb e 170) (not (changed c e) || (valid c e && isInput (threadElement e .id))) (not (valid c e) && not (changed c e))
+
+unfoldable pub goodCache : Cache → Bool
+goodCache c = eqb (length (c .values)) slotBytes && (eqb (length (c .marks)) 6 && every (markGood c) 192 0)
