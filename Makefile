@@ -9,12 +9,12 @@ ARGS =
 
 archive = target/staticlib/libadderknot.a
 bench = target/bench
-programs = $(addprefix $(bench)/,calls compare example score speed)
+programs = $(addprefix $(bench)/,calls compare count example score speed)
 vendors = $(patsubst bench/mistakes/%.edit,$(bench)/vendor-%.so,$(wildcard bench/mistakes/*.edit))
 headers = include/adderknot.h $(wildcard bench/*.h)
 night = $(addprefix bench/,night.c gsb.c lent.c chance.c tell.c)
 
-.PHONY: all bench run score speed listing test install uninstall clean tools help
+.PHONY: all bench run score speed counts listing test install uninstall clean tools help
 .PHONY: compiler
 .DELETE_ON_ERROR:
 .PRECIOUS: $(bench)/vendor-%.c
@@ -31,6 +31,9 @@ score: $(bench)/score $(bench)/model.so ## score a vendor's library: make score 
 
 speed: $(bench)/speed ## time the library against the model
 	$(bench)/speed $(ARGS)
+
+counts: tools $(bench)/count ## count the instructions of library and model, or of each function in a case: make counts ARGS=7
+	bench/counts.sh $(ARGS)
 
 listing: ## build the listing program and run it on the example of README.md
 	rt check listing
@@ -54,8 +57,8 @@ clean: ## remove all that was built, the proved crates too
 	rm -rf target
 
 tools: compiler ## install from Debian's packages what the tests need and a fresh machine may lack
-	@command -v objdump >/dev/null && command -v pkg-config >/dev/null || \
-	    (apt-get update -qq && apt-get install -y -qq binutils pkg-config)
+	@command -v objdump >/dev/null && command -v pkg-config >/dev/null && command -v valgrind >/dev/null || \
+	    (apt-get update -qq && apt-get install -y -qq binutils pkg-config valgrind)
 
 compiler:
 	@command -v $(CC) >/dev/null || (apt-get update -qq && apt-get install -y -qq gcc libc6-dev)
@@ -72,7 +75,8 @@ $(bench)/%: bench/%.c $(headers) $(archive)
 	mkdir -p $(bench)
 	$(CC) $(CFLAGS) -Iinclude $(filter %.c,$^) $(archive) $(LDLIBS) -o $@
 
-$(bench)/calls $(bench)/compare $(bench)/speed: bench/model.c
+$(bench)/calls $(bench)/compare $(bench)/count $(bench)/speed: bench/model.c
+$(bench)/count $(bench)/speed: bench/cases.c
 $(bench)/compare $(bench)/score: $(night)
 $(bench)/score: bench/vendor.c bench/cover.c
 $(bench)/score: LDLIBS = -ldl

@@ -1,6 +1,5 @@
 /*
- * speed.c: times the library against the model on the calls that walk a guest state buffer, and on those that create
- * and delete.
+ * speed.c: times the library against the model on the cases of cases.c.
  *
  *     make target/bench/speed
  *     speed [--rounds N]
@@ -14,246 +13,14 @@
  */
 #define _POSIX_C_SOURCE 199309L
 
-#include "l0.h"
-#include "model.h"
+#include "cases.h"
 
-#include <stdbool.h>
 #include <stdio.h>
 #include <stdlib.h>
 #include <string.h>
 #include <time.h>
 
-#define COUNT(a) (sizeof(a) / sizeof((a)[0]))
-
 enum { ROUNDS_MAX = 100000, BATCH_NS = 400000 };
-
-/* Where the values begin in a store. */
-enum { VALUES = 42 };
-
-/* The store is full and the vCPU, the only one of its guest, is in the last slot: then finding it, and testing the
-   store, take longest. */
-enum { GUEST = ADK_GUESTS, VCPU = ADK_VCPU_MAX };
-
-/* ---- The two sides ---- */
-
-/* A buffer under construction, and what is lent of it. */
-struct buffer {
-    uint8_t bytes[ADK_BUFFER_MAX];
-    size_t len;
-};
-
-struct side {
-    struct l0 on;
-    uint8_t store[ADK_STORE_SIZE];
-    struct buffer buffer, effect; /* buffer is a run's input */
-    uint8_t output[ADK_BUFFER_MAX];
-};
-
-static struct side library = { .on = L0_LIBRARY }, model = { .on = L0_MODEL };
-
-static adk_found call_get(struct side *s)
-{
-    return plain(s->on.get_state(s->store, sizeof s->store, 0, GUEST, VCPU, s->buffer.bytes, s->buffer.len));
-}
-
-static adk_found call_set(struct side *s)
-{
-    return plain(s->on.set_state(s->store, sizeof s->store, 0, GUEST, VCPU, s->buffer.bytes, s->buffer.len));
-}
-
-/* Both run buffers are registered and lent with the greatest size; the input's count says where it ends. */
-static adk_found call_run(struct side *s)
-{
-    return plain(s->on.run_vcpu(s->store, sizeof s->store, 0, GUEST, VCPU, s->buffer.bytes, sizeof s->buffer.bytes,
-                             s->output, sizeof s->output, s->effect.bytes, s->effect.len, ADK_EXIT_HCALL));
-}
-
-/* Three calls. The guest comes back under its number, and its vCPU in the slot that was freed. */
-static adk_found call_anew(struct side *s)
-{
-    adk_answer gone = s->on.delete_guest(s->store, sizeof s->store, 0, GUEST);
-    adk_answer guest = s->on.create_guest(s->store, sizeof s->store, 0, ADK_TOKEN);
-    adk_answer vcpu = s->on.create_vcpu(s->store, sizeof s->store, 0, guest.r4, VCPU);
-    return (adk_found){ gone.r3 | guest.r3 | vcpu.r3, guest.r4, 0, 0, 0 };
-}
-
-static adk_found call_lookup(struct side *s)
-{
-    return s->on.lookup(s->buffer.bytes, s->buffer.len, ADK_GSID_VSR(63));
-}
-
-/* ---- Buffers ---- */
-
-static void put(uint8_t *p, unsigned n, uint64_t v)
-{
-    for (; n-- > 0; v >>= 8)
-        p[n] = (uint8_t)v;
-}
-
-static void begin(struct buffer *b, unsigned count)
-{
-    put(b->bytes, 4, count);
-    b->len = 4;
-}
-
-/* Adds an element, with a value in which each byte is another. */
-static void add(struct buffer *b, unsigned id, unsigned size)
-{
-    uint8_t *p = b->bytes + b->len;
-    put(p, 2, id);
-    put(p + 2, 2, size);
-    for (unsigned i = 0; i < size; i++)
-        p[4 + i] = (uint8_t)(b->len + i);
-    b->len += 4 + size;
-}
-
-static void add_run(struct buffer *b, unsigned first, unsigned last, unsigned size)
-{
-    for (unsigned id = first; id <= last; id++)
-        add(b, id, size);
-}
-
-static void add_registration(struct buffer *b, unsigned id)
-{
-    add(b, id, 16);
-    put(b->bytes + b->len - 8, 8, ADK_BUFFER_MAX);
-}
-
-static void build_none(struct buffer *b)
-{
-    (void)b;
-}
-
-static void build_one(struct buffer *b)
-{
-    add(b, ADK_GSID_GPR(3), 8);
-}
-
-/* 20 elements that a processor may have written, those of the output among them. */
-static void build_effect(struct buffer *b)
-{
-    add_run(b, ADK_GSID_GPR(3), ADK_GSID_GPR(12), 8);
-    add_run(b, ADK_GSID_NIA, ADK_GSID_CTR, 8);
-    add_run(b, ADK_GSID_CR, ADK_GSID_CR, 4);
-    add_run(b, ADK_GSID_HDAR, ADK_GSID_HDAR, 8);
-    add_run(b, ADK_GSID_HDSISR, ADK_GSID_HEIR, 4);
-    add_run(b, ADK_GSID_ASDR, ADK_GSID_ASDR, 8);
-}
-
-/* All that a run input takes; the last is VSR 63. */
-static void build_164(struct buffer *b)
-{
-    add_run(b, 0x0C02, 0x0C02, 8);
-    add_run(b, 0x1000, 0x1053, 8);
-    add_run(b, 0x2000, 0x200E, 4);
-    add_run(b, 0x3000, 0x303F, 16);
-}
-
-static void build_registrations(struct buffer *b)
-{
-    add_registration(b, ADK_GSID_RUN_INPUT);
-    add_registration(b, ADK_GSID_RUN_OUTPUT);
-}
-
-static void build_166(struct buffer *b)
-{
-    build_registrations(b);
-    build_164(b);
-}
-
-static void build_readable(struct buffer *b)
-{
-    add_run(b, 0x0C00, 0x0C01, 16);
-    add_run(b, 0x0C02, 0x0C02, 8);
-    add_run(b, 0x1000, 0x1039, 8);
-    add_run(b, 0x103B, 0x1053, 8);
-    add_run(b, 0x2000, 0x200E, 4);
-    add_run(b, 0x3000, 0x303F, 16);
-    add_run(b, 0xF000, 0xF000, 8);
-    add_run(b, 0xF001, 0xF002, 4);
-    add_run(b, 0xF003, 0xF003, 8);
-}
-
-/* The last ID is one past the list. */
-static void build_bad(struct buffer *b)
-{
-    build_164(b);
-    b->len -= 4 + 16;
-    add(b, 0x3040, 16);
-}
-
-static void build_nops(struct buffer *b)
-{
-    memset(b->bytes + 4, 0, ADK_BUFFER_MAX - 4);
-    b->len = ADK_BUFFER_MAX;
-}
-
-/* ---- Cases ---- */
-
-static const struct work {
-    const char *name;
-    adk_found (*call)(struct side *s);
-    void (*build)(struct buffer *b);
-    unsigned count, effect; /* how many elements the buffer has, and the effect */
-    uint64_t r3, r4;
-} WORK[] = {
-    { "set state, one GPR", call_set, build_one, 1, 0, ADK_OK, 0 },
-    { "set state, the 164 elements of a run input and both registrations", call_set, build_166, 166, 0, ADK_OK, 0 },
-    { "get state, all 169 readable thread elements", call_get, build_readable, 169, 0, ADK_OK, 0 },
-    { "set state, refused: the last of 164 is bad", call_set, build_bad, 164, 0, ADK_INVALID_ELEMENT_ID, 163 },
-    { "set state, 16,383 empty NOPs", call_set, build_nops, 16383, 0, ADK_OK, 0 },
-    { "lookup, the last of 164", call_lookup, build_164, 164, 0, ADK_OK, 0 },
-    { "run, exit 0xC00, empty input and effect", call_run, build_none, 0, 0, ADK_OK, ADK_EXIT_HCALL },
-    { "run, exit 0xC00, 164 elements of input and 20 of effect", call_run, build_164, 164, 20, ADK_OK, ADK_EXIT_HCALL },
-    { "delete a guest, create it and its vCPU, the other 15 slots in use", call_anew, build_none, 0, 0, ADK_OK, GUEST },
-};
-
-/* A store with every guest and every slot in use. Its values differ, so that one from a wrong place shows. */
-static bool fill_store(uint8_t *store)
-{
-    static struct buffer both;
-    uint64_t refused = adk_fresh_store(store, ADK_STORE_SIZE).r3;
-    refused |= adk_set_capabilities(store, ADK_STORE_SIZE, 0, ADK_CAP_POWER9 | ADK_CAP_POWER10).r3;
-    for (unsigned i = 0; i < ADK_GUESTS; i++)
-        refused |= adk_create_guest(store, ADK_STORE_SIZE, 0, ADK_TOKEN).r3;
-    for (unsigned i = 1; i < ADK_SLOTS; i++)
-        refused |= adk_create_vcpu(store, ADK_STORE_SIZE, 0, 1 + i % (GUEST - 1), i).r3;
-    refused |= adk_create_vcpu(store, ADK_STORE_SIZE, 0, GUEST, VCPU).r3;
-    for (size_t i = VALUES; i < ADK_STORE_SIZE; i++)
-        store[i] = (uint8_t)(101 * i);
-    begin(&both, 2);
-    build_registrations(&both);
-    refused |= adk_set_state(store, ADK_STORE_SIZE, 0, GUEST, VCPU, both.bytes, both.len).r3;
-    return refused == 0;
-}
-
-static void prepare(struct side *s, const uint8_t *store, const struct work *w)
-{
-    memcpy(s->store, store, sizeof s->store);
-    memset(s->output, 0xEE, sizeof s->output);
-    begin(&s->buffer, w->count);
-    w->build(&s->buffer);
-    begin(&s->effect, w->effect);
-    if (w->effect != 0)
-        build_effect(&s->effect);
-}
-
-static bool same_buffer(const struct buffer *a, const struct buffer *b)
-{
-    return a->len == b->len && memcmp(a->bytes, b->bytes, a->len) == 0;
-}
-
-/* One call on each side, outside the clock. */
-static bool agree(const struct work *w)
-{
-    adk_found l = w->call(&library), m = w->call(&model);
-    return l.r3 == w->r3 && l.r4 == w->r4 && l.r3 == m.r3 && l.r4 == m.r4 && l.r5 == m.r5 && l.at == m.at &&
-           l.len == m.len && memcmp(library.store, model.store, sizeof model.store) == 0 &&
-           same_buffer(&library.buffer, &model.buffer) && same_buffer(&library.effect, &model.effect) &&
-           memcmp(library.output, model.output, sizeof model.output) == 0;
-}
-
-/* ---- Time ---- */
 
 static double now(void)
 {
@@ -329,9 +96,8 @@ int main(int argc, char **argv)
         return 1;
     }
     printf("speed: %ld rounds\nratio  library ns  model ns  case\n", rounds);
-    for (size_t i = 0; i < COUNT(WORK); i++) {
-        prepare(&library, store, &WORK[i]);
-        prepare(&model, store, &WORK[i]);
+    for (size_t i = 0; i < WORKS; i++) {
+        prepare(store, &WORK[i]);
         bool same = agree(&WORK[i]);
         measure(&WORK[i], (unsigned)rounds);
         if (!same || !agree(&WORK[i])) {

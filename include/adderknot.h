@@ -39,7 +39,8 @@ extern "C" {
  *     byte 0      8              the agreed capabilities
  *     byte 8      1              the live guests, guest 1 the most significant bit
  *     byte 9      1              zero
- *     byte 10     16 * 2         the slot words: used (1 bit), guest (4 bits), vCPU (11 bits)
+ *     byte 10     16 * 2         the slot words, from the most significant bit down: used (1 bit), guest (4 bits), vCPU
+ *                                (11 bits); that of guest 3, vCPU 2047 is 0x9FFF
  *     byte 42     8 * 52         the values of each guest: logical PVR (element 0x0003) at 0, TB offset (0x0004) at 4,
  *                                partition table (0x0005) at 12, process table (0x0006) at 36
  *     byte 458    16 * 1,820     the values of the vCPU in each slot, in order of element ID without gaps

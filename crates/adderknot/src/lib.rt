@@ -7,10 +7,11 @@ ghost use mathlib.Core.Path.{_≡_};
 ghost use Rattle.answer.specs.declared.Call.{Call};
 ghost use Rattle.answer.specs.Answer.{told};
 ghost use Rattle.store.specs.Layout.{small};
-ghost use Rattle.gsb.specs.Lookup.{lookedUp};
+ghost use Rattle.lookup.specs.Lookup.{lookedUp};
 ghost use Rattle.state.specs.State.{getState, setState};
 ghost use Rattle.run.specs.Run.{runVcpu};
-ghost use Rattle.l0.specs.Calls.{freshStore, getCapabilities, setCapabilities, createGuest, createVcpu, deleteGuest, guestClock};
+ghost use Rattle.guests.specs.Guests.{createGuest, createVcpu, deleteGuest};
+ghost use Rattle.l0.specs.Calls.{freshStore, getCapabilities, setCapabilities, guestClock};
 ghost use Rattle.adderknot.specs.Entries.{Left, leaves, Filled, fills, Ran, runs, tells, foundAt};
 
 #[no_mangle]
@@ -41,14 +42,17 @@ pub extern "C" fn adk_set_capabilities(store: &mut [u8], flags: u64, bitmap: u64
 pub extern "C" fn adk_create_guest(store: &mut [u8], flags: u64, token: u64) -> Registers
     ensures { λ r. ⌜ _≡_ {A = Left} (record { registers = r; store = now (store .exit) }) (leaves Call.CreateGuest (createGuest small (now (store .entry)) flags token)) ⌝ }
 {
-    registers_of(Call::CreateGuest, l0::create_guest(store, flags, token))
+    registers_of(Call::CreateGuest, guests::create_guest(store, flags, token))
 }
 
 #[no_mangle]
 pub extern "C" fn adk_create_vcpu(store: &mut [u8], flags: u64, guest: u64, vcpu: u64) -> Registers
     ensures { λ r. ⌜ _≡_ {A = Left} (record { registers = r; store = now (store .exit) }) (leaves Call.CreateVcpu (createVcpu small (now (store .entry)) flags guest vcpu)) ⌝ }
 {
-    registers_of(Call::CreateVcpu, l0::create_vcpu(store, flags, guest, vcpu))
+    registers_of(
+        Call::CreateVcpu,
+        guests::create_vcpu(store, flags, guest, vcpu),
+    )
 }
 
 #[no_mangle]
@@ -115,7 +119,7 @@ pub extern "C" fn adk_run_vcpu(
 pub extern "C" fn adk_delete_guest(store: &mut [u8], flags: u64, guest: u64) -> Registers
     ensures { λ r. ⌜ _≡_ {A = Left} (record { registers = r; store = now (store .exit) }) (leaves Call.DeleteGuest (deleteGuest small (now (store .entry)) flags guest)) ⌝ }
 {
-    registers_of(Call::DeleteGuest, l0::delete_guest(store, flags, guest))
+    registers_of(Call::DeleteGuest, guests::delete_guest(store, flags, guest))
 }
 
 #[no_mangle]
@@ -139,7 +143,7 @@ pub struct Found {
 pub extern "C" fn adk_lookup(buffer: &[u8], id: u16) -> Found
     ensures { λ r. ⌜ r ≡ foundAt (lookedUp (now (buffer .entry)) id) ⌝ }
 {
-    let found = gsb::lookup(buffer, id);
+    let found = lookup::lookup(buffer, id);
     let answer = found.answer;
     let told = registers_of(Call::Lookup, answer);
     Found {

@@ -3,7 +3,7 @@
 use mathlib.Core.Path.{refl, sym, ap, _∙_, subst}
 use mathlib.Core.List.{List, [], _∷_}
 use Prim.Native.Nat.{ℕ, _≤_, _<_}
-use Rattle.elements.specs.Rules.{goodInput, goodOutput}
+use Rattle.rules.specs.Rules.{goodInput, goodOutput}
 use Rattle.store.specs.declared.Layout.{Layout}
 use Rattle.store.specs.Layout.{Sound, small}
 use Rattle.store.specs.Header.{header, slotOf}

@@ -10,14 +10,14 @@ use Rattle.octets.specs.Bytes.{be}
 use Rattle.octets.proofs.Numbers.{be-ext}
 use Rattle.elements.specs.declared.Scope.{Scope}
 use Rattle.elements.specs.declared.Scope.the-variants.{Thread}
-use Rattle.elements.specs.declared.Usage.the-variants.{Effect as InEffect}
-use Rattle.elements.specs.declared.Context.{Context}
+use Rattle.rules.specs.declared.Usage.the-variants.{Effect as InEffect}
+use Rattle.rules.specs.declared.Context.{Context}
 use Rattle.elements.specs.declared.Entry.{Entry}
 use Rattle.elements.specs.declared.Kind.the-variants.{Listed}
 use Rattle.elements.specs.Table.{table, below, sameScope, position, sourceOf, find, kindOf}
-use Rattle.elements.specs.Rules.{between, permits, allows}
+use Rattle.rules.specs.Rules.{between, permits, allows}
 use Rattle.elements.proofs.Table.{entry-rule, T-true, position-mono, source-stored}
-use Rattle.elements.proofs.Rules.{permits-listed, permits-scope, scopeFor, effect-not-buffer}
+use Rattle.rules.proofs.Rules.{permits-listed, permits-scope, scopeFor, effect-not-buffer}
 use Rattle.gsb.specs.declared.Walked.the-variants.{Done}
 use Rattle.gsb.specs.Walk.{countOf, idAt, offsetAt, firstBad}
 use Rattle.gsb.proofs.Judged.{good-element}

@@ -13,7 +13,7 @@ use Rattle.answer.specs.declared.Bad.the-variants.{Id, Size}
 use Rattle.answer.specs.declared.Call.{Call as Name}
 use Rattle.answer.specs.declared.Fault.the-variants.{Length, Element, Cache as CacheBad}
 use Rattle.elements.specs.Table.{numberOf, threadElement}
-use Rattle.elements.specs.Rules.{goodInput, goodOutput}
+use Rattle.rules.specs.Rules.{goodInput, goodOutput}
 use Rattle.gsb.proofs.RoundTrip.{firstPlace}
 use Rattle.store.specs.declared.Layout.{Layout}
 use Rattle.store.specs.Layout.{Sound}

@@ -7,7 +7,7 @@ use Rattle.octets.specs.Bytes.{bytesAt}
 use Rattle.answer.specs.declared.Answer.{Answer}
 use Rattle.answer.specs.Answer.{told}
 use Rattle.elements.specs.Table.{threadElement}
-use Rattle.elements.specs.Rules.{goodInput, goodOutput}
+use Rattle.rules.specs.Rules.{goodInput, goodOutput}
 use Rattle.store.specs.declared.Layout.{Layout}
 use Rattle.store.specs.Layout.{Sound, slotBytes}
 use Rattle.exits.specs.Exits.{elementOf}

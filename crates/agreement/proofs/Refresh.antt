@@ -9,7 +9,7 @@ use lib.Seq.{take-suc, take-length}
 use Rattle.octets.specs.Bytes.{put, zeros}
 use Rattle.octets.proofs.Bytes.{length-zeros}
 use Rattle.elements.specs.Table.{position, numberOf, threadElement}
-use Rattle.elements.specs.Rules.{goodInput, goodOutput}
+use Rattle.rules.specs.Rules.{goodInput, goodOutput}
 use Rattle.gsb.specs.Walk.{countOf}
 use Rattle.gsb.specs.Message.{message}
 use Rattle.gsb.proofs.RoundTrip.{Begins, message-count, message-id}

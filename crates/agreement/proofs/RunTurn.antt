@@ -16,8 +16,8 @@ use Rattle.answer.specs.declared.Call.{Call as Name}
 use Rattle.answer.specs.declared.Registers.{Registers}
 use Rattle.answer.specs.Answer.{told}
 use Rattle.answer.specs.Refusals.{firstOf}
-use Rattle.elements.specs.declared.Usage.the-variants.{RunInput, Effect as InEffect}
-use Rattle.elements.specs.Rules.{goodInput, goodOutput}
+use Rattle.rules.specs.declared.Usage.the-variants.{RunInput, Effect as InEffect}
+use Rattle.rules.specs.Rules.{goodInput, goodOutput}
 use Rattle.gsb.specs.declared.Walked.{Walked}
 use Rattle.gsb.specs.declared.Walked.the-variants.{Done, Stopped}
 use Rattle.gsb.specs.Walk.{countOf, badLength, firstBad}

@@ -12,11 +12,11 @@ use Rattle.answer.specs.declared.Bad.the-variants.{Id, Size, Value}
 use Rattle.answer.specs.declared.Fault.{Fault}
 use Rattle.answer.specs.declared.Fault.the-variants.{Length, Element}
 use Rattle.answer.specs.Refusals.{firstOf}
-use Rattle.elements.specs.declared.Usage.{Usage}
-use Rattle.elements.specs.declared.Usage.the-variants.{ThreadGet, ThreadSet, RunInput}
+use Rattle.rules.specs.declared.Usage.{Usage}
+use Rattle.rules.specs.declared.Usage.the-variants.{ThreadGet, ThreadSet, RunInput}
 use Rattle.elements.specs.Table.{kindOf, position}
-use Rattle.elements.specs.Rules.{sizeFits, goodValue}
-use Rattle.elements.proofs.Rules.{value-get, value-run}
+use Rattle.rules.specs.Rules.{sizeFits, goodValue}
+use Rattle.rules.proofs.Rules.{value-get, value-run}
 use Rattle.gsb.specs.declared.Walked.{Walked}
 use Rattle.gsb.specs.declared.Walked.the-variants.{Done, Stopped}
 use Rattle.gsb.specs.Walk.{countOf, firstBad}

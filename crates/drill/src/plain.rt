@@ -1,16 +1,22 @@
-// The plain L1: a write or a read is a set or a get state with a buffer of one element, a run has an input of zeros. Each function adds
-// what it saw to the digest.
+// The plain L1, of vCPU 0 of guest 1: a write or a read is a set or a get state with a buffer of one element, a run has an input of
+// zeros. Each operation adds what it saw to the digest.
+use super::digest::mix_answer;
 use super::digest::mix_bytes;
 use super::digest::mix_registers;
+use super::digest::mix_run;
+use super::draw::OPERATIONS;
+use super::draw::Operation;
+use super::draw::SEED;
+use super::draw::a_byte;
+use super::draw::an_element;
+use super::draw::an_exit;
+use super::draw::an_id;
+use super::draw::an_operation;
+use super::draw::next;
+use super::start::start;
 use answer::Call;
 use answer::Registers;
 use answer::registers_of;
-use gsb::put_element;
-use octets::copy;
-use octets::put32;
-ghost use Prim.Native.Nat.{_+_, _≤_};
-ghost use mathlib.Core.Path.{_≡_};
-ghost use lib.ListN.{length};
 
 // The NOP and the two run buffers, which no L1 writes or reads.
 fn is_special(id: u16) -> bool {
@@ -31,74 +37,83 @@ fn six() -> Registers {
     }
 }
 
-// Count 1, the ID, the length as size, the bytes given.
-pub fn one_element(b: &mut [u8], id: u16, value: &[u8])
-    requires { ⌜ (length (now b) ≡ 8 + length (now value)) × (length (now value) ≤ 16) ⌝ }
-{
-    put32(b, 0, 1);
-    put_element(b, 4, id, value, 0, value.len());
-}
-
-pub fn write(store: &mut [u8], id: u16, value: &[u8], room: &mut [u8], digest: u64) -> u64
-    requires { ⌜ (length (now value) ≤ 16) × (24 ≤ length (now room)) ⌝ }
-{
-    if is_special(id) {
-        return mix_registers(digest, six());
-    }
-    let b = &mut room[0..8 + value.len()];
-    one_element(b, id, value);
-    mix_registers(
+fn set(store: &mut [u8], guest: u64, x: u64, digest: u64) -> u64 {
+    let e = an_element(x);
+    let b = e.bytes;
+    let end = e.end;
+    mix_answer(
         digest,
-        registers_of(Call::SetState, state::set_state(store, 0, 1, 0, b)),
+        Call::SetState,
+        state::set_state(store, 0, guest, 0, &b[0..end]),
     )
 }
 
-// The value is copied back, as it was after a refusal.
-fn get(store: &[u8], id: u16, value: &mut [u8], room: &mut [u8]) -> Registers
-    requires { ⌜ (length (now value) ≤ 16) × (24 ≤ length (now room)) ⌝ }
-{
-    let n = value.len();
-    let b = &mut room[0..8 + n];
-    one_element(b, id, value);
-    let told = registers_of(Call::GetState, state::get_state(store, 0, 1, 0, b));
-    copy(b, 8, value, 0, n);
-    told
-}
-
-pub fn read(store: &[u8], id: u16, value: &mut [u8], room: &mut [u8], digest: u64) -> u64
-    requires { ⌜ (length (now value) ≤ 16) × (24 ≤ length (now room)) ⌝ }
-{
-    if is_special(id) {
-        return mix_bytes(mix_registers(digest, six()), value);
+fn write(store: &mut [u8], x: u64, digest: u64) -> u64 {
+    if is_special(an_id(x)) {
+        return mix_registers(digest, six());
     }
-    let told = get(store, id, value, room);
-    mix_bytes(mix_registers(digest, told), value)
+    set(store, 1, x, digest)
 }
 
-// After an accepted run the store is seen too.
-pub fn run(
-    store: &mut [u8],
-    blank: &[u8],
-    output: &mut [u8],
-    effect: &[u8],
-    exit: u64,
-    digest: u64,
-) -> u64 {
+fn get(store: &[u8], id: u16, buffer: &mut [u8]) -> Registers {
+    if is_special(id) {
+        return six();
+    }
+    registers_of(Call::GetState, state::get_state(store, 0, 1, 0, buffer))
+}
+
+fn read(store: &[u8], x: u64, digest: u64) -> u64 {
+    let e = an_element(x);
+    let mut bytes = e.bytes;
+    let end = e.end;
+    let b: &mut [u8] = &mut bytes;
+    let told = get(store, e.id, &mut b[0..end]);
+    let whole: &[u8] = b;
+    mix_bytes(mix_registers(digest, told), &whole[8..end])
+}
+
+// The effect is a buffer of one element.
+fn run(store: &mut [u8], x: u64, digest: u64) -> u64 {
+    let e = an_element(next(x));
+    let b = e.bytes;
+    let end = e.end;
+    let input = [0u8; 2424];
+    let mut output = [a_byte(x); 128];
     let told = registers_of(
         Call::RunVcpu,
-        run::run_vcpu(store, 0, 1, 0, blank, output, effect, exit),
+        run::run_vcpu(store, 0, 1, 0, &input, &mut output, &b[0..end], an_exit(x)),
     );
-    let seen = mix_bytes(mix_registers(digest, told), output);
-    if told.r3 != 0 {
-        return seen;
-    }
-    mix_bytes(seen, store)
+    mix_run(digest, told, &output, store)
 }
 
 // A call on guest 2, which both L1s make.
-pub fn other(store: &mut [u8], buffer: &[u8], digest: u64) -> u64 {
-    mix_registers(
-        digest,
-        registers_of(Call::SetState, state::set_state(store, 0, 2, 0, buffer)),
-    )
+pub fn other(store: &mut [u8], x: u64, digest: u64) -> u64 {
+    set(store, 2, next(x), digest)
+}
+
+fn turn(store: &mut [u8], x: u64, digest: u64) -> u64 {
+    match an_operation(x) {
+        Operation::Write => write(store, x, digest),
+        Operation::Read => read(store, x, digest),
+        Operation::Other => other(store, x, digest),
+        Operation::Run => run(store, x, digest),
+    }
+}
+
+fn turns(store: &mut [u8]) -> u64 {
+    let mut digest = 1;
+    let mut x = SEED;
+    let mut i = 0;
+    while i < OPERATIONS {
+        x = next(x);
+        digest = turn(store, x, digest);
+        i += 1;
+    }
+    digest
+}
+
+pub fn drill() -> u64 {
+    let mut store = [0u8; 29578];
+    start(&mut store);
+    turns(&mut store)
 }

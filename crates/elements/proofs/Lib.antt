@@ -1,4 +1,3 @@
 pub mod Find
 pub mod Codes
 pub mod Table
-pub mod Rules

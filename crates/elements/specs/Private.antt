@@ -1,6 +1,5 @@
--- Names that only the contracts of private functions use.
+-- Names that only laws and the contracts of private functions use, here and in `kinds`.
 use Prim.Native.Nat.{ℕ}
-use mathlib.Core.Bool.{Bool, true, false}
 use mathlib.Core.List.{List, [], _∷_}
 use Rattle.elements.specs.declared.Access.{Access}
 use Rattle.elements.specs.declared.Access.the-variants.{Read, Write, ReadWrite}
@@ -9,8 +8,6 @@ use Rattle.elements.specs.declared.Scope.the-variants.{Guest, Thread}
 use Rattle.elements.specs.declared.Row.{Row}
 use Rattle.elements.specs.declared.Source.{Source}
 use Rattle.elements.specs.declared.Source.the-variants.{Stored}
-use Rattle.elements.specs.declared.Usage.{Usage}
-use Rattle.elements.specs.declared.Usage.the-variants.{GuestGet, GuestSet, ThreadGet, ThreadSet, RunInput, Effect}
 use Rattle.elements.specs.declared.Kind.{Kind}
 use Rattle.elements.specs.declared.Kind.the-variants.{Listed}
 
@@ -33,12 +30,3 @@ threadKind n a p = Listed (record { size = n; access = a; scope = Thread; source
 
 abbrev pub guestKind : ℕ → Access → Source → Kind
 guestKind n a s = Listed (record { size = n; access = a; scope = Guest; source = s })
-
--- a use that is about a vCPU
-abbrev pub ofThread : Usage → Bool
-ofThread GuestGet = false
-ofThread GuestSet = false
-ofThread ThreadGet = true
-ofThread ThreadSet = true
-ofThread RunInput = true
-ofThread Effect = true

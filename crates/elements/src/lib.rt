@@ -1,21 +1,7 @@
-// The elements of a guest state buffer: the one constant table, and what follows from it for an ID.
-// The types stand here; `rows` holds the table, `lookup` and `number` what it says of an ID and of a number,
-// `judge` what a call may do with an element.
-mod judge;
-mod lookup;
-mod number;
+// The elements of a guest state buffer: the one constant table, and the types in which it is told what an ID is.
+// `kinds` tells it of an ID and of a number, `rules` what a call may do with an element.
 mod rows;
 
-pub use judge::good_input;
-pub use judge::good_output;
-pub use judge::good_value;
-pub use judge::of_thread;
-pub use judge::permitted;
-pub use judge::right_size;
-pub use judge::within;
-pub use lookup::kind_of;
-pub use number::number_of;
-pub use number::thread_element;
 pub use rows::row_at;
 
 pub enum Access {
@@ -63,20 +49,4 @@ pub struct Element {
     pub id: u16,
     pub size: usize,
     pub position: usize,
-}
-
-// What a buffer is used for. An effect is 01's word for what the processor wrote during a run.
-pub enum Usage {
-    GuestGet,
-    GuestSet,
-    ThreadGet,
-    ThreadSet,
-    RunInput,
-    Effect,
-}
-
-// All that judging an element depends on beside its bytes: the use, and the capabilities agreed at the call.
-pub struct Context {
-    pub usage: Usage,
-    pub capabilities: u64,
 }

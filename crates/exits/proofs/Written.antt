@@ -14,10 +14,10 @@ use Rattle.octets.specs.Bytes.{bytesAt, put, zeros}
 use Rattle.octets.proofs.Bytes.{length-bytesAt}
 use Rattle.elements.specs.declared.Element.{Element}
 use Rattle.elements.specs.Table.{table, below, position, numberOf, numbered, threadElement}
-use Rattle.elements.specs.Rules.{between}
+use Rattle.rules.specs.Rules.{between}
 use Rattle.elements.proofs.Find.{inside}
 use Rattle.gsb.specs.Message.{elementBytes, elementsBytes}
-use Rattle.elements.proofs.Rules.{between-low, between-high}
+use Rattle.rules.proofs.Rules.{between-low, between-high}
 use Rattle.gsb.proofs.Messages.{length-more, elements-none, elements-more}
 use Rattle.exits.specs.Exits.{exits, elementOf, weigh, rowBytes, valued}
 use Rattle.exits.specs.Private.{exitAt, codes}

@@ -2,7 +2,6 @@ mod Tests
 pub mod Judged
 pub mod Quick
 pub mod Walks
-pub mod Lookups
 pub mod First
 pub mod Messages
 pub mod RoundTrip

@@ -8,12 +8,13 @@ use lib.Dec.{leb, eqb}
 use lib.ListN.{length}
 use borrow.Author.Tests.{leb-true, ne-eqb}
 use Rattle.elements.specs.declared.Access.the-variants.{Write, ReadWrite}
-use Rattle.elements.specs.declared.Context.{Context}
+use Rattle.rules.specs.declared.Context.{Context}
 use Rattle.elements.specs.Table.{kindOf}
-use Rattle.elements.specs.Rules.{between, sizeFits}
-use Rattle.elements.specs.Private.{threadKind, ofThread}
+use Rattle.rules.specs.Rules.{between, sizeFits}
+use Rattle.elements.specs.Private.{threadKind}
+use Rattle.rules.specs.Private.{ofThread}
 use Rattle.elements.proofs.Find.{kind-register, kind-word, kind-vector}
-use Rattle.elements.proofs.Rules.{and-left, and-right, between-low, between-high, permits-register, value-register}
+use Rattle.rules.proofs.Rules.{and-left, and-right, between-low, between-high, permits-register, value-register}
 use Rattle.gsb.specs.declared.Verdict.{Verdict}
 use Rattle.gsb.specs.declared.Verdict.the-variants.{Good}
 use Rattle.gsb.specs.Walk.{idAt, sizeAt, judged}

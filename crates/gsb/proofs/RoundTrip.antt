@@ -17,14 +17,14 @@ use Rattle.octets.proofs.Numbers.{be-part, be-of-digits, length-digits}
 use Rattle.answer.specs.declared.Bad.{Bad}
 use Rattle.answer.specs.declared.Bad.the-variants.{Id, Size, Value}
 use Rattle.answer.specs.declared.Place.{Place}
-use Rattle.elements.specs.declared.Usage.the-variants.{RunInput}
-use Rattle.elements.specs.declared.Context.{Context}
+use Rattle.rules.specs.declared.Usage.the-variants.{RunInput}
+use Rattle.rules.specs.declared.Context.{Context}
 use Rattle.elements.specs.declared.Entry.{Entry}
 use Rattle.elements.specs.declared.Kind.the-variants.{Listed}
 use Rattle.elements.specs.Table.{table, kindOf}
-use Rattle.elements.specs.Rules.{permits, sizeFits, goodValue}
+use Rattle.rules.specs.Rules.{permits, sizeFits, goodValue}
 use Rattle.elements.proofs.Table.{listed-rule, size-bound}
-use Rattle.elements.proofs.Rules.{value-run}
+use Rattle.rules.proofs.Rules.{value-run}
 use Rattle.gsb.specs.declared.Verdict.the-variants.{Good, Faulty}
 use Rattle.gsb.specs.declared.Walked.the-variants.{Done, Stopped}
 use Rattle.gsb.specs.Walk.{countOf, idAt, sizeAt, nextAt, offsetAt, badLength, judged, firstBad}

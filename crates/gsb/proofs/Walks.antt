@@ -1,16 +1,20 @@
 -- The laws of the walk, over the judge: nothing else opens `walk`, `after` and `offsetAt`. Assumes nothing.
 use mathlib.Core.Path.{_≡_, refl, sym, ap, _∙_}
+use mathlib.Core.Bool.{Bool, true, false, _||_, true≢false}
 use mathlib.Core.List.{List}
 use Prim.Native.Nat.{ℕ, suc, _+_, _-_, _≤_, _<_}
 use native.Mathlib.Numerals.{add-one}
 use native.Mathlib.Omega.{arith}
+use lib.Dec.{ltb}
+use lib.ListN.{length}
+use borrow.Author.Tests.{ltb-false}
 use Rattle.answer.specs.declared.Bad.{Bad}
-use Rattle.elements.specs.declared.Context.{Context}
+use Rattle.rules.specs.declared.Context.{Context}
 use Rattle.gsb.specs.declared.Verdict.{Verdict}
 use Rattle.gsb.specs.declared.Verdict.the-variants.{Good, Faulty}
 use Rattle.gsb.specs.declared.Walked.{Walked}
 use Rattle.gsb.specs.declared.Walked.the-variants.{Done, Stopped}
-use Rattle.gsb.specs.Walk.{countOf, nextAt, offsetAt, judged, after, walk, firstBad}
+use Rattle.gsb.specs.Walk.{countOf, nextAt, offsetAt, badLength, judged, after, walk, firstBad}
 
 -- the walk as a loop that counts i up to count has it
 module _ (judge : ℕ → Verdict) (count i at : ℕ) where
@@ -77,3 +81,11 @@ module _ (b : List ℕ) (i at : ℕ) where
 pub offset-start : (b : List ℕ) → 4 ≡ offsetAt b 0
 unfolding offsetAt
 offset-start b = refl
+
+-- a buffer whose length is good has a count
+pub long-enough : (b : List ℕ) (t : Bool) → t ≡ badLength b → t ≡ false → 4 ≤ length b
+long-enough b t e h = go (ltb (length b) 4) refl (sym e ∙ h)
+  where
+    go : (s : Bool) → ltb (length b) 4 ≡ s → (s || ltb 65536 (length b)) ≡ false → 4 ≤ length b
+    go true p q = let z : true ≡ false = q in absurd (true≢false z)
+    go false p q = ltb-false _ _ p

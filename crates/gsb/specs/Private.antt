@@ -3,8 +3,8 @@ use Prim.Native.Nat.{ℕ}
 use mathlib.Core.Path.{_≡_}
 use mathlib.Core.Bool.{Bool}
 use mathlib.Core.List.{List}
-use Rattle.elements.specs.declared.Context.{Context}
-use Rattle.elements.specs.Private.{ofThread}
+use Rattle.rules.specs.declared.Context.{Context}
+use Rattle.rules.specs.Private.{ofThread}
 use Rattle.gsb.specs.declared.Verdict.{Verdict}
 use Rattle.gsb.specs.declared.Verdict.the-variants.{Good, Faulty}
 use Rattle.gsb.specs.Walk.{judged}

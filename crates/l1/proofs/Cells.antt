@@ -12,17 +12,17 @@ use borrow.Author.Tests.{eqb-false, leb-true, not-true}
 use Rattle.octets.specs.Bytes.{bytesAt, put}
 use Rattle.octets.proofs.Bytes.{Clear, left, right, clear-sym, length-bytesAt, read-back, read-other}
 use Rattle.elements.specs.declared.Scope.the-variants.{Thread}
-use Rattle.elements.specs.declared.Usage.{Usage}
-use Rattle.elements.specs.declared.Usage.the-variants.{ThreadGet, ThreadSet, RunInput}
-use Rattle.elements.specs.declared.Context.{Context}
+use Rattle.rules.specs.declared.Usage.{Usage}
+use Rattle.rules.specs.declared.Usage.the-variants.{ThreadGet, ThreadSet, RunInput}
+use Rattle.rules.specs.declared.Context.{Context}
 use Rattle.elements.specs.declared.Entry.{Entry}
 use Rattle.elements.specs.declared.Element.{Element}
 use Rattle.elements.specs.declared.Kind.{Kind}
 use Rattle.elements.specs.declared.Kind.the-variants.{Unlisted, Nop, Listed}
 use Rattle.elements.specs.Table.{table, below, sameScope, isStored, position, sourceOf, find, kindOf, numberOf, numbered, threadElement}
-use Rattle.elements.specs.Rules.{between, writable, permits, sizeFits, allows}
+use Rattle.rules.specs.Rules.{between, writable, permits, sizeFits, allows}
 use Rattle.elements.proofs.Table.{nop-zero, size-bound, position-end, position-apart, thread-stored, number-lt, number-element, element-number}
-use Rattle.elements.proofs.Rules.{permits-cases, allows-scope}
+use Rattle.rules.proofs.Rules.{permits-cases, allows-scope}
 use Rattle.store.specs.Search.{every}
 use Rattle.store.proofs.Search.{no-bool, both, every-at}
 use Rattle.exits.specs.Exits.{elementOf}

@@ -18,10 +18,10 @@ use Rattle.answer.specs.declared.Call.the-variants.{CacheRead}
 use Rattle.answer.specs.declared.Registers.{Registers}
 use Rattle.answer.specs.Answer.{told}
 use Rattle.answer.specs.Refusals.{firstOf}
-use Rattle.elements.specs.declared.Usage.the-variants.{ThreadGet}
+use Rattle.rules.specs.declared.Usage.the-variants.{ThreadGet}
 use Rattle.elements.specs.declared.Element.{Element as Thing}
 use Rattle.elements.specs.Table.{kindOf, numberOf}
-use Rattle.elements.specs.Rules.{permits}
+use Rattle.rules.specs.Rules.{permits}
 use Rattle.exits.specs.Exits.{elementOf}
 use Rattle.store.specs.Layout.{small}
 use Rattle.store.proofs.Search.{both, no-bool}

@@ -7,8 +7,8 @@ use native.Mathlib.Nat.{not-suc-le-zero, le-of-suc-le-suc}
 use native.Mathlib.Omega.{arith}
 use lib.ListN.{length}
 use borrow.Author.Tests.{eq-eqb}
-use Rattle.elements.specs.declared.Usage.the-variants.{RunInput}
-use Rattle.elements.specs.declared.Context.{Context}
+use Rattle.rules.specs.declared.Usage.the-variants.{RunInput}
+use Rattle.rules.specs.declared.Context.{Context}
 use Rattle.gsb.specs.declared.Walked.the-variants.{Done}
 use Rattle.gsb.specs.Walk.{firstBad}
 use Rattle.gsb.specs.Message.{message}

@@ -15,15 +15,15 @@ use Rattle.answer.specs.declared.Fault.{Fault}
 use Rattle.answer.specs.declared.Fault.the-variants.{Length, Element, Cache as CacheBad}
 use Rattle.answer.specs.declared.Answer.{Answer}
 use Rattle.elements.specs.declared.Scope.the-variants.{Thread}
-use Rattle.elements.specs.declared.Usage.{Usage}
-use Rattle.elements.specs.declared.Usage.the-variants.{ThreadGet, RunInput}
+use Rattle.rules.specs.declared.Usage.{Usage}
+use Rattle.rules.specs.declared.Usage.the-variants.{ThreadGet, RunInput}
 use Rattle.elements.specs.declared.Entry.{Entry}
 use Rattle.elements.specs.declared.Kind.the-variants.{Nop, Listed}
 use Rattle.elements.specs.declared.Element.{Element as Thing}
 use Rattle.elements.specs.Table.{table, position, kindOf, numberOf, numbered, threadElement}
-use Rattle.elements.specs.Rules.{allows}
+use Rattle.rules.specs.Rules.{allows}
 use Rattle.elements.proofs.Table.{table-right, past, nop-zero, number-lt, number-mono, Numbered, element-number, position-end, thread-stored, size-bound}
-use Rattle.elements.proofs.Rules.{scopeFor, permits-cases, allows-scope}
+use Rattle.rules.proofs.Rules.{scopeFor, permits-cases, allows-scope}
 use Rattle.exits.specs.Exits.{elementOf}
 use Rattle.store.proofs.Search.{both, no-bool}
 use Rattle.admission.specs.declared.Admission.{Admission}

@@ -5,7 +5,7 @@ use admission::Admission;
 use answer::Answer;
 use answer::refusal;
 use answer::success;
-use marks::is_input;
+use caches::is_input;
 ghost use mathlib.Core.Path.{_≡_};
 ghost use Rattle.l1.specs.Cache.{Wrote, writeCache};
 

@@ -10,12 +10,12 @@ use lib.Dec.{lit<, eqb, ltb}
 use lib.ListN.{length}
 use lib.Pow.{shl-exact}
 use borrow.Author.Tests.{eq-eqb, ne-eqb, eqb-true, lt-ltb, le-ltb, lt-leb, le-leb, not-true, not-false}
-use Rattle.elements.specs.declared.Usage.{Usage}
-use Rattle.elements.specs.declared.Usage.the-variants.{ThreadGet, RunInput}
+use Rattle.rules.specs.declared.Usage.{Usage}
+use Rattle.rules.specs.declared.Usage.the-variants.{ThreadGet, RunInput}
 use Rattle.elements.specs.declared.Element.{Element}
 use Rattle.elements.specs.declared.Kind.{Kind}
 use Rattle.elements.specs.Table.{kindOf, threadElement}
-use Rattle.elements.specs.Rules.{between, permits}
+use Rattle.rules.specs.Rules.{between, permits}
 use Rattle.store.specs.Layout.{slotBytes}
 use Rattle.store.specs.Search.{every}
 use Rattle.store.proofs.Loops.{every-past, every-out, every-end}

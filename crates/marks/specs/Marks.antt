@@ -5,10 +5,10 @@ use mathlib.Core.List.{List}
 use lib.Bits.{bitOr}
 use lib.Dec.{eqb, ltb}
 use lib.ListN.{length, getD, set}
-use Rattle.elements.specs.declared.Usage.{Usage}
-use Rattle.elements.specs.declared.Usage.the-variants.{ThreadGet, RunInput}
+use Rattle.rules.specs.declared.Usage.{Usage}
+use Rattle.rules.specs.declared.Usage.the-variants.{ThreadGet, RunInput}
 use Rattle.elements.specs.Table.{kindOf, threadElement}
-use Rattle.elements.specs.Rules.{between, permits}
+use Rattle.rules.specs.Rules.{between, permits}
 use Rattle.store.specs.Layout.{slotBytes}
 use Rattle.store.specs.Search.{every}
 

@@ -24,12 +24,12 @@ use Rattle.elements.specs.declared.Source.the-variants.{Fixed, Stored}
 use Rattle.elements.specs.declared.Entry.{Entry}
 use Rattle.elements.specs.declared.Kind.{Kind}
 use Rattle.elements.specs.declared.Kind.the-variants.{Unlisted, Nop, Listed}
-use Rattle.elements.specs.declared.Usage.the-variants.{RunInput, Effect as InEffect}
-use Rattle.elements.specs.declared.Context.{Context}
+use Rattle.rules.specs.declared.Usage.the-variants.{RunInput, Effect as InEffect}
+use Rattle.rules.specs.declared.Context.{Context}
 use Rattle.elements.specs.Table.{table, below, position, kindOf, numberOf}
-use Rattle.elements.specs.Rules.{permits, sizeFits}
+use Rattle.rules.specs.Rules.{permits, sizeFits}
 use Rattle.elements.proofs.Table.{bytesOf, position-end, source-stored}
-use Rattle.elements.proofs.Rules.{size-listed, permits-scope, scopeFor}
+use Rattle.rules.proofs.Rules.{size-listed, permits-scope, scopeFor}
 use Rattle.gsb.specs.declared.Walked.the-variants.{Done}
 use Rattle.gsb.specs.Message.{message}
 use Rattle.gsb.specs.Walk.{countOf, idAt, sizeAt, offsetAt, firstBad}
@@ -53,7 +53,8 @@ use Rattle.admission.specs.Refusals.{Outcome, success, accept, refuse, decide, 
 use Rattle.admission.specs.Target.{baseOf}
 use Rattle.state.specs.State.{contextOf, getUse, getState, setUse, setState}
 use Rattle.run.specs.Run.{inputSize, outputSize, inputOf, runTests, ranStore, ran, runVcpu}
-use Rattle.l0.specs.Calls.{getCapabilities, createGuest, createVcpu, deleteGuest, offsetOf, guestClock, Call, GetCapabilities, SetCapabilities, CreateGuest, CreateVcpu, GetState, SetState, RunVcpu, DeleteGuest, GuestClock, outcome}
+use Rattle.guests.specs.Guests.{createGuest, createVcpu, deleteGuest}
+use Rattle.l0.specs.Calls.{getCapabilities, offsetOf, guestClock, Call, GetCapabilities, SetCapabilities, CreateGuest, CreateVcpu, GetState, SetState, RunVcpu, DeleteGuest, GuestClock, outcome}
 use Rattle.admission.proofs.Judging.{Passed}
 use Rattle.promises.specs.Apart.{Elsewhere}
 use Rattle.promises.proofs.Kept.{decided, applied-header, base-values, well-formed-kept}

@@ -8,7 +8,7 @@ use Rattle.octets.specs.Bytes.{bytesAt, put, be, digits, zeros}
 use Rattle.octets.specs.Bits.{bit, bits, ins, setBit, putBits}
 use Rattle.octets.proofs.Bytes.{put-same}
 use Rattle.elements.specs.Table.{table, below, position, sourceOf, find, kindOf}
-use Rattle.elements.specs.Rules.{allows, permits, sizeFits, ruleOf, goodValue}
+use Rattle.rules.specs.Rules.{allows, permits, sizeFits, ruleOf, goodValue}
 use Rattle.gsb.specs.Walk.{offsetAt, judged, after as next, walk, firstBad}
 use Rattle.transfer.specs.Transfer.{putFrom, putAs, applied, readFrom, fillAs, filled}
 use Rattle.store.specs.Layout.{small, slotBytes, slotAt}
@@ -20,7 +20,8 @@ use Rattle.exits.specs.Exits.{exits, isAmong}
 use Rattle.admission.specs.Target.{baseOf}
 use Rattle.state.specs.State.{getState, setState}
 use Rattle.run.specs.Run.{ran, runVcpu}
-use Rattle.l0.specs.Calls.{createGuest, createVcpu, guestClock, CreateVcpu, outcome, after}
+use Rattle.guests.specs.Guests.{createGuest, createVcpu}
+use Rattle.l0.specs.Calls.{guestClock, CreateVcpu, outcome, after}
 use Rattle.promises.specs.History.{registers}
 use Rattle.promises.specs.Edges.{agrees, element, counted, one, ready, twoSlots, r3, r4, registered, goodThenBad, zerosBefore, placed, readAfter, edgesOf, starred}
 

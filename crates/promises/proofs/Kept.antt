@@ -26,7 +26,8 @@ use Rattle.gsb.specs.Walk.{countOf, idAt, offsetAt}
 use Rattle.transfer.specs.Transfer.{valueAt, putFrom, putAs, applied}
 use Rattle.transfer.proofs.Moving.{length-applied}
 use Rattle.admission.specs.Refusals.{Outcome, accept, refuse, decide, hasBit0}
-use Rattle.l0.specs.Calls.{freshStore, getCapabilities, setCapabilities, createGuest, createVcpu, deleteGuest, guestClock, Call, GetCapabilities, SetCapabilities, CreateGuest, CreateVcpu, GetState, SetState, RunVcpu, DeleteGuest, GuestClock, outcome, after}
+use Rattle.guests.specs.Guests.{createGuest, createVcpu, deleteGuest}
+use Rattle.l0.specs.Calls.{freshStore, getCapabilities, setCapabilities, guestClock, Call, GetCapabilities, SetCapabilities, CreateGuest, CreateVcpu, GetState, SetState, RunVcpu, DeleteGuest, GuestClock, outcome, after}
 use Rattle.admission.specs.Target.{baseOf}
 use Rattle.state.specs.State.{getState, setState}
 use Rattle.run.specs.Run.{inputOf, runVcpu, ran, ranStore}

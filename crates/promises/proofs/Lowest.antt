@@ -18,7 +18,7 @@ use Rattle.store.proofs.Search.{first-found, first-bounds, first-le}
 use Rattle.store.proofs.Tests.{live-parts}
 use Rattle.store.proofs.Kept.{deleted-live, deleted-slot}
 use Rattle.admission.specs.Refusals.{Outcome, refuse, decide}
-use Rattle.l0.specs.Calls.{createGuest, createVcpu}
+use Rattle.guests.specs.Guests.{createGuest, createVcpu}
 use Rattle.admission.proofs.Judging.{Passed}
 
 -- no test that holds has success for its fault

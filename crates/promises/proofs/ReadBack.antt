@@ -12,16 +12,16 @@ use Rattle.octets.proofs.Numbers.{be-other}
 use Rattle.answer.specs.declared.Fault.the-variants.{None, Length}
 use Rattle.elements.specs.declared.Source.{Source}
 use Rattle.elements.specs.declared.Source.the-variants.{Stored}
-use Rattle.elements.specs.declared.Usage.{Usage}
-use Rattle.elements.specs.declared.Usage.the-variants.{GuestSet, ThreadSet}
+use Rattle.rules.specs.declared.Usage.{Usage}
+use Rattle.rules.specs.declared.Usage.the-variants.{GuestSet, ThreadSet}
 use Rattle.elements.specs.declared.Entry.{Entry}
 use Rattle.elements.specs.declared.Kind.{Kind}
 use Rattle.elements.specs.declared.Kind.the-variants.{Unlisted, Nop, Listed}
-use Rattle.elements.specs.declared.Context.{Context}
+use Rattle.rules.specs.declared.Context.{Context}
 use Rattle.elements.specs.Table.{kindOf, position}
-use Rattle.elements.specs.Rules.{permits, isSetting}
+use Rattle.rules.specs.Rules.{permits, isSetting}
 use Rattle.elements.proofs.Table.{nop-zero, listed-stored}
-use Rattle.elements.proofs.Rules.{permits-listed, setting-stored, size-fits}
+use Rattle.rules.proofs.Rules.{permits-listed, setting-stored, size-fits}
 use Rattle.gsb.specs.declared.Walked.{Walked}
 use Rattle.gsb.specs.declared.Walked.the-variants.{Done, Stopped}
 use Rattle.gsb.specs.Walk.{countOf, idAt, sizeAt, offsetAt, firstBad}

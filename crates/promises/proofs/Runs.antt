@@ -15,7 +15,7 @@ use Rattle.answer.specs.declared.Place.{Place}
 use Rattle.answer.specs.declared.Fault.{Fault}
 use Rattle.answer.specs.declared.Fault.the-variants.{None, Element, Exit, Effect}
 use Rattle.answer.specs.Refusals.{firstOf}
-use Rattle.elements.specs.declared.Usage.the-variants.{RunInput, Effect as InEffect}
+use Rattle.rules.specs.declared.Usage.the-variants.{RunInput, Effect as InEffect}
 use Rattle.gsb.specs.declared.Walked.{Walked}
 use Rattle.gsb.specs.declared.Walked.the-variants.{Done, Stopped}
 use Rattle.gsb.specs.Walk.{countOf, badLength, firstBad}

@@ -18,15 +18,15 @@ use Rattle.answer.specs.declared.Place.{Place}
 use Rattle.answer.specs.declared.Fault.{Fault}
 use Rattle.answer.specs.declared.Fault.the-variants.{None, Element}
 use Rattle.answer.specs.Refusals.{firstOf}
-use Rattle.elements.specs.declared.Usage.{Usage}
-use Rattle.elements.specs.declared.Usage.the-variants.{GuestGet, GuestSet, ThreadGet, ThreadSet}
+use Rattle.rules.specs.declared.Usage.{Usage}
+use Rattle.rules.specs.declared.Usage.the-variants.{GuestGet, GuestSet, ThreadGet, ThreadSet}
 use Rattle.elements.proofs.Table.{bytesOf}
-use Rattle.elements.proofs.Rules.{scopeFor}
+use Rattle.rules.proofs.Rules.{scopeFor}
 use Rattle.gsb.specs.declared.Walked.{Walked}
 use Rattle.gsb.specs.declared.Walked.the-variants.{Done, Stopped}
 use Rattle.gsb.specs.Walk.{countOf, badLength, firstBad}
 use Rattle.gsb.proofs.First.{FirstFrom, refused-exactly}
-use Rattle.gsb.proofs.Lookups.{long-enough}
+use Rattle.gsb.proofs.Walks.{long-enough}
 use Rattle.store.specs.declared.Layout.{Layout}
 use Rattle.store.specs.Layout.{Sound, guestBytes, slotBytes, guestAt, slotAt}
 use Rattle.store.specs.Header.{header, slotOf}

@@ -35,7 +35,8 @@ use Rattle.admission.specs.Refusals.{Outcome, refuse, hasBit0}
 use Rattle.admission.specs.Target.{baseOf}
 use Rattle.state.specs.State.{getState, setState}
 use Rattle.run.specs.Run.{inputOf, ranStore, ran, runVcpu}
-use Rattle.l0.specs.Calls.{getCapabilities, setCapabilities, createGuest, createVcpu, deleteGuest, guestClock, Call, GetCapabilities, SetCapabilities, CreateGuest, CreateVcpu, GetState, SetState, RunVcpu, DeleteGuest, GuestClock, outcome, after}
+use Rattle.guests.specs.Guests.{createGuest, createVcpu, deleteGuest}
+use Rattle.l0.specs.Calls.{getCapabilities, setCapabilities, guestClock, Call, GetCapabilities, SetCapabilities, CreateGuest, CreateVcpu, GetState, SetState, RunVcpu, DeleteGuest, GuestClock, outcome, after}
 use Rattle.promises.specs.History.{nameOf, registers, isAccepted, creates, isDropped, drops, created, dropped, freeSlots}
 use Rattle.promises.proofs.Kept.{decided, refused-unchanged, applied-header, base-values, well-formed-kept}
 use Rattle.promises.proofs.Lowest.{accepted, no-store, no-flag, no-guest, no-vcpu, no-exists, no-room, LowestSlot, lowest-slot}

@@ -5,7 +5,7 @@ use mathlib.Core.List.{List, [], _∷_}
 use Prim.Native.Nat.{ℕ}
 use Rattle.octets.specs.Bytes.{be}
 use Rattle.elements.specs.Table.{table, find, kindOf}
-use Rattle.elements.specs.Rules.{allows, permits, sizeFits, ruleOf, goodValue}
+use Rattle.rules.specs.Rules.{allows, permits, sizeFits, ruleOf, goodValue}
 use Rattle.gsb.specs.Walk.{judged, after, walk, firstBad}
 use Rattle.render.specs.Text.{ascii, shown}
 use Rattle.render.specs.Listing.{firstLine, verdictText, line, onGood, lines, refusedLine, lastLine, listing}

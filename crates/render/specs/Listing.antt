@@ -9,8 +9,8 @@ use Rattle.answer.specs.declared.Fault.the-variants.{Element}
 use Rattle.answer.specs.declared.Call.the-variants.{SetState}
 use Rattle.answer.specs.declared.Registers.{Registers}
 use Rattle.answer.specs.Answer.{told}
-use Rattle.elements.specs.declared.Usage.the-variants.{ThreadSet}
-use Rattle.elements.specs.declared.Context.{Context}
+use Rattle.rules.specs.declared.Usage.the-variants.{ThreadSet}
+use Rattle.rules.specs.declared.Context.{Context}
 use Rattle.gsb.specs.declared.Verdict.{Verdict}
 use Rattle.gsb.specs.declared.Verdict.the-variants.{Good, Faulty}
 use Rattle.gsb.specs.declared.Walked.{Walked}

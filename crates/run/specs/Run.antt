@@ -9,9 +9,9 @@ use Rattle.answer.specs.declared.RunBuffer.the-variants.{Input, Output}
 use Rattle.answer.specs.declared.Fault.{Fault}
 use Rattle.answer.specs.declared.Fault.the-variants.{None, Unregistered, Short, Exit, Effect}
 use Rattle.elements.specs.declared.Scope.the-variants.{Thread}
-use Rattle.elements.specs.declared.Usage.the-variants.{RunInput, Effect as InEffect}
+use Rattle.rules.specs.declared.Usage.the-variants.{RunInput, Effect as InEffect}
 use Rattle.elements.specs.Table.{position}
-use Rattle.elements.specs.Rules.{goodInput, goodOutput}
+use Rattle.rules.specs.Rules.{goodInput, goodOutput}
 use Rattle.gsb.specs.declared.Walked.{Walked}
 use Rattle.gsb.specs.declared.Walked.the-variants.{Done, Stopped}
 use Rattle.gsb.specs.Walk.{countOf, badLength, firstBad}

@@ -12,17 +12,17 @@ use Rattle.octets.proofs.Bytes.{length-bytesAt, put-all}
 use Rattle.answer.specs.declared.Answer.{Answer}
 use Rattle.answer.specs.declared.Fault.{Fault}
 use Rattle.elements.specs.declared.Scope.the-variants.{Thread}
-use Rattle.elements.specs.declared.Usage.{Usage}
-use Rattle.elements.specs.declared.Usage.the-variants.{ThreadGet}
+use Rattle.rules.specs.declared.Usage.{Usage}
+use Rattle.rules.specs.declared.Usage.the-variants.{ThreadGet}
 use Rattle.elements.specs.declared.Entry.{Entry}
 use Rattle.elements.specs.declared.Kind.{Kind}
 use Rattle.elements.specs.declared.Kind.the-variants.{Unlisted, Nop, Listed}
 use Rattle.elements.specs.declared.Element.{Element}
-use Rattle.elements.specs.declared.Context.{Context}
+use Rattle.rules.specs.declared.Context.{Context}
 use Rattle.elements.specs.Table.{kindOf, position, numberOf, threadElement}
-use Rattle.elements.specs.Rules.{permits, allows, sizeFits, isSetting, goodValue}
+use Rattle.rules.specs.Rules.{permits, allows, sizeFits, isSetting, goodValue}
 use Rattle.elements.proofs.Table.{nop-zero, number-lt, number-element, position-end, thread-stored, size-bound}
-use Rattle.elements.proofs.Rules.{permits-cases, allows-scope, value-get}
+use Rattle.rules.proofs.Rules.{permits-cases, allows-scope, value-get}
 use Rattle.gsb.specs.declared.Walked.the-variants.{Done}
 use Rattle.gsb.specs.Walk.{countOf, badLength, firstBad}
 use Rattle.gsb.specs.Message.{message}

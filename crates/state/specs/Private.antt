@@ -1,8 +1,8 @@
 -- What private functions give: the parts of get state and set state past the target.
 use Prim.Native.Nat.{ℕ}
 use mathlib.Core.List.{List, []}
-use Rattle.elements.specs.declared.Usage.{Usage}
-use Rattle.elements.specs.declared.Usage.the-variants.{GuestGet, GuestSet, ThreadGet, ThreadSet, RunInput, Effect}
+use Rattle.rules.specs.declared.Usage.{Usage}
+use Rattle.rules.specs.declared.Usage.the-variants.{GuestGet, GuestSet, ThreadGet, ThreadSet, RunInput, Effect}
 use Rattle.gsb.specs.Walk.{countOf}
 use Rattle.store.specs.declared.Layout.{Layout}
 use Rattle.store.specs.Layout.{guestBytes, slotBytes}

@@ -1,22 +1,8 @@
-// The lent store: where its parts lie, when it is well formed, its guests and slots.
-mod header;
-mod places;
-mod update;
-
-pub use header::capabilities_of;
-pub use header::free_guest;
-pub use header::free_slot;
-pub use header::is_live;
-pub use header::slot_of;
-pub use header::well_formed;
-pub use places::guest_at;
-pub use places::slot_at;
-pub use places::small_layout;
-pub use update::put_capabilities;
-pub use update::with_guest;
-pub use update::with_vcpu;
-pub use update::without_guest;
-pub use update::without_guests;
+// The lent store: its layout, and where a guest's and a slot's values start. `header` tests a store and searches in it,
+// `update` changes it; what both mean is defined here.
+ghost use mathlib.Core.Path.{_≡_};
+ghost use Prim.Native.Nat.{_+_, _≤_, _<_, _*_};
+ghost use Rattle.store.specs.Layout.{Sound, small, guestAt, slotAt, guestBytes, slotBytes};
 
 // Numbers of guests and slots, and where slot words, guests' values and slots' values start. `zeros` is how many zero bits
 // follow the live bits, `ids` how many guest ids a slot word of `width` bits can name.
@@ -30,4 +16,35 @@ pub struct Layout {
     pub guests_at: usize,
     pub slots_at: usize,
     pub size: usize,
+}
+
+// 01's store of 29,578 bytes.
+pub fn small_layout() -> Layout
+    ensures { λ r. ⌜ r ≡ small ⌝ }
+{
+    Layout {
+        guests: 8,
+        zeros: 8,
+        slots: 16,
+        ids: 16,
+        width: 16,
+        words_at: 10,
+        guests_at: 42,
+        slots_at: 458,
+        size: 29578,
+    }
+}
+
+pub fn guest_at(l: Layout, g: usize) -> usize
+    requires { ⌜ Sound l × (1 ≤ g) × (g ≤ l .guests) ⌝ }
+    ensures { λ r. ⌜ (r ≡ guestAt l g) × (l .«guests_at» ≤ r) × (r + guestBytes ≤ l .«slots_at») ⌝ }
+{
+    l.guests_at + 52 * (g - 1)
+}
+
+pub fn slot_at(l: Layout, j: usize) -> usize
+    requires { ⌜ Sound l × (j < l .slots) ⌝ }
+    ensures { λ r. ⌜ (r ≡ slotAt l j) × (l .«slots_at» ≤ r) × (r + slotBytes ≤ l .size) ⌝ }
+{
+    l.slots_at + 1820 * j
 }

@@ -14,11 +14,11 @@ use Rattle.elements.specs.declared.Source.the-variants.{Fixed, Stored}
 use Rattle.elements.specs.declared.Entry.{Entry}
 use Rattle.elements.specs.declared.Kind.{Kind}
 use Rattle.elements.specs.declared.Kind.the-variants.{Unlisted, Nop, Listed}
-use Rattle.elements.specs.declared.Context.{Context}
+use Rattle.rules.specs.declared.Context.{Context}
 use Rattle.elements.specs.Table.{kindOf}
-use Rattle.elements.specs.Rules.{permits, sizeFits}
+use Rattle.rules.specs.Rules.{permits, sizeFits}
 use Rattle.elements.proofs.Table.{bytesOf, position-end, source-stored}
-use Rattle.elements.proofs.Rules.{size-listed, permits-scope, scopeFor}
+use Rattle.rules.proofs.Rules.{size-listed, permits-scope, scopeFor}
 use Rattle.gsb.specs.declared.Walked.the-variants.{Done}
 use Rattle.gsb.specs.Walk.{countOf, idAt, sizeAt, nextAt, offsetAt, firstBad}
 use Rattle.gsb.proofs.Judged.{GoodElement, good-element}

@@ -9,11 +9,11 @@ use lib.ListN.{length}
 use Rattle.octets.specs.Bytes.{bytesAt, put}
 use Rattle.elements.specs.declared.Access.the-variants.{Write, ReadWrite}
 use Rattle.elements.specs.Table.{kindOf}
-use Rattle.elements.specs.Rules.{between}
+use Rattle.rules.specs.Rules.{between}
 use Rattle.elements.specs.Private.{threadKind}
 use Rattle.elements.proofs.Find.{kind-register, kind-word, kind-vector}
 use Rattle.gsb.specs.Walk.{idAt, nextAt}
-use Rattle.elements.proofs.Rules.{between-low, between-high}
+use Rattle.rules.proofs.Rules.{between-low, between-high}
 use Rattle.transfer.specs.Transfer.{valueAt, putAs, fillAs, Ready}
 use Rattle.transfer.proofs.Moving.{register-fits, register-stored, register-filled}
 

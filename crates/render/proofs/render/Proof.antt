@@ -1,5 +1,5 @@
 -- The three parts of a listing one behind the other; their bounds add up to less than `room`.
-use Rattle.gsb.proofs.Lookups.{long-enough}
+use Rattle.gsb.proofs.Walks.{long-enough}
 use Rattle.render.proofs.Listed.{short-enough, rendered-short, rendered-length, rendered-all}
 use borrow.Author.Needs.{needs}
 use Rattle.render.proofs.render.Statement.{statement}

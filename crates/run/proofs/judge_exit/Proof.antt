@@ -1,5 +1,5 @@
 -- By how far the tests came: the laws `exit-..` of Runs.
-use Rattle.gsb.proofs.Lookups.{long-enough}
+use Rattle.gsb.proofs.Walks.{long-enough}
 use Rattle.run.proofs.Runs.{exit-unknown, exit-length, exit-bad, exit-done}
 use borrow.Author.Needs.{needs}
 use Rattle.run.proofs.judge_exit.Statement.{statement}

@@ -1,5 +1,5 @@
 -- By the buffer's tests (`buffer-..`).
-use Rattle.gsb.proofs.Lookups.{long-enough}
+use Rattle.gsb.proofs.Walks.{long-enough}
 use Rattle.state.proofs.Buffers.{buffer-length, buffer-bad, buffer-done}
 use borrow.Author.Needs.{needs}
 use Rattle.state.proofs.judge_buffer.Statement.{statement}

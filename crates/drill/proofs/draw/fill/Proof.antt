@@ -18,8 +18,8 @@ loop-holds c = search needs
 next-requires : tie.Need-next-requires Inv-loop μ-loop
 next-requires c κs = search needs
 
-cast-b : tie.Need-cast-b Inv-loop μ-loop
-cast-b c = search needs
+a-byte-requires : tie.Need-a-byte-requires Inv-loop μ-loop
+a-byte-requires c κs = search needs
 
 slice-write-b : tie.Need-slice-write-b Inv-loop μ-loop
 slice-write-b c = search needs
@@ -47,7 +47,7 @@ fill-spec =
     μ-loop
     loop-holds
     next-requires
-    cast-b
+    a-byte-requires
     slice-write-b
     add-i
     loop-less

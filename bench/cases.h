@@ -1,0 +1,36 @@
+/*
+ * cases.h: the cases on which the library is measured against the model: speed.c times them, and count.c is for
+ * counting their instructions.
+ */
+#ifndef CASES_H
+#define CASES_H
+
+#include "l0.h"
+
+#include <stdbool.h>
+
+struct buffer;
+struct side; /* an L0 with its store and its buffers */
+
+struct work {
+    const char *name;
+    adk_found (*call)(struct side *s);
+    void (*build)(struct buffer *b);
+    unsigned count, effect; /* how many elements the buffer has, and the effect */
+    uint64_t r3, r4;
+};
+
+extern struct side library, model;
+extern const struct work WORK[];
+extern const size_t WORKS;
+
+/* Makes a store with every guest and every slot in use. */
+bool fill_store(uint8_t *store);
+
+/* Gives both sides the store, and the buffers of the work. */
+void prepare(const uint8_t *store, const struct work *w);
+
+/* Makes one call on each side: whether both give the answer that the work names, and leave the same bytes. */
+bool agree(const struct work *w);
+
+#endif
