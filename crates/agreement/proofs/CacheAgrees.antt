@@ -21,7 +21,7 @@ use Rattle.agreement.proofs.Refresh.{empty-inv}
 module _ (l : Layout) (so : Sound l) (g v j : ℕ) (below : j < l .slots) where
   -- one operation, whatever it is
   turn : (o : Op) (os : List Op) → Allowed g (o ∷ os) → (b : Cached) (p : List ℕ) (ws : List (ℕ × List ℕ)) → Inv l so g v j below b p ws
-      → Goes l so g v j below o ws (cachedTurn l g v o b) (plainTurn l g v o p) × Allowed g os
+      → Goes l so g v j below b o ws (cachedTurn l g v o b) (plainTurn l g v o p) × Allowed g os
   turn (Write id w) os a b p ws i = (write-turn l so g v j below b p ws i id w (a .0), a .1)
   turn (Read id w) os a b p ws i = (read-turn l so g v j below b p ws i id w (a .0), a .1)
   turn (Run flags input output effect exit) os a b p ws i = (run-turn l so g v j below flags input output effect exit b p ws i, a)

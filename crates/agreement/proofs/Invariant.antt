@@ -24,7 +24,7 @@ use Rattle.run.specs.Run.{inputSize, outputSize}
 use Rattle.marks.specs.Marks.{Cache, valid, changed, isInput, isSpecial, goodCache}
 use Rattle.l1.specs.Cache.{first, Wrote, change, writeCache, keep}
 use Rattle.agreement.specs.Plain.{writePlain}
-use Rattle.agreement.specs.Agree.{Op, Write, seen, Turn, Cached, cachedTurn, plainTurn, since, newest, Same}
+use Rattle.agreement.specs.Agree.{Op, Write, seen, Turn, Cached, cachedTurn, plainTurn, since, newest, Same, registeredInput}
 use Rattle.l1.proofs.Cells.{Named, number-named, named-number, number-back, named-back, input-named, input-common, valueOf, value-same, value-other, length-value}
 use Rattle.l1.proofs.Sent.{Fit}
 use Rattle.agreement.proofs.Writes.{placed, back, back-cons, newest-same, newest-other, Latest, none, some, latest, read-none}
@@ -51,13 +51,13 @@ module _ (l : Layout) (so : Sound l) (g v j : ℕ) (below : j < l .slots) where
     pub past : (e : ℕ) → 170 ≤ e → e < 192 → (valid (b .cache) e ≡ false) × (changed (b .cache) e ≡ false)
     pub holds : (e : ℕ) → e < 170 → valid (b .cache) e ≡ true → cell (b .cache) (threadElement e .id) ≡ valueOf at p (threadElement e .id)
 
-  -- what a turn must give
-  pub record Goes (o : Op) (ws : List (ℕ × List ℕ)) (c : Turn Cached) (p : Turn (List ℕ)) : Type 0 where
-    pub same : Same o ws c p
+  -- what a turn of b must give
+  pub record Goes (b : Cached) (o : Op) (ws : List (ℕ × List ℕ)) (c : Turn Cached) (p : Turn (List ℕ)) : Type 0 where
+    pub same : Same (registeredInput l g v (b .store)) o ws c p
     pub next : Inv (c .next) (p .next) (since o (p .shown .answer) ws)
 
-  pub as-turned : (o : Op) (ws : List (ℕ × List ℕ)) (c c′ : Turn Cached) (p p′ : Turn (List ℕ)) → c ≡ c′ → p ≡ p′ → Goes o ws c′ p′ → Goes o ws c p
-  as-turned o ws c c′ p p′ e q t = subst (λ (x : Turn Cached). Goes o ws x p) (sym e) (subst (Goes o ws c′) (sym q) t)
+  pub as-turned : (b : Cached) (o : Op) (ws : List (ℕ × List ℕ)) (c c′ : Turn Cached) (p p′ : Turn (List ℕ)) → c ≡ c′ → p ≡ p′ → Goes b o ws c′ p′ → Goes b o ws c p
+  as-turned b o ws c c′ p p′ e q t = subst (λ (x : Turn Cached). Goes b o ws x p) (sym e) (subst (Goes b o ws c′) (sym q) t)
 
   module _ (b : Cached) (p : List ℕ) (ws : List (ℕ × List ℕ)) (i : Inv b p ws) where
     pub plain-ours : Ours l so g v j below p
@@ -228,20 +228,20 @@ module _ (l : Layout) (so : Sound l) (g v j : ℕ) (below : j < l .slots) where
 
       -- a turn by what each side did
       wrote : (r : Wrote) (o : Outcome) → writeCache (b .cache) id w ≡ r → writePlain l p g v id w ≡ o
-          → Goes (Write id w) ws (record { shown = seen Name.CacheWrite (r .answer) []; next = record { cache = r .cache; store = b .store }; input = [] }) (record { shown = seen Name.SetState (o .answer) []; next = o .store; input = [] })
-          → Goes (Write id w) ws (cachedTurn l g v (Write id w) b) (plainTurn l g v (Write id w) p)
+          → Goes b (Write id w) ws (record { shown = seen Name.CacheWrite (r .answer) []; next = record { cache = r .cache; store = b .store }; input = [] }) (record { shown = seen Name.SetState (o .answer) []; next = o .store; input = [] })
+          → Goes b (Write id w) ws (cachedTurn l g v (Write id w) b) (plainTurn l g v (Write id w) p)
       unfolding cachedTurn plainTurn
       wrote r o e q t =
-          as-turned (Write id w) ws _ _ _ _
+          as-turned b (Write id w) ws _ _ _ _
           (ap (λ (x : Wrote). record { shown = seen Name.CacheWrite (x .answer) []; next = record { cache = x .cache; store = b .store }; input = [] }) e)
           (ap (λ (x : Outcome). record { shown = seen Name.SetState (x .answer) []; next = x .store; input = [] }) q) t
 
-      pub write-turn : Goes (Write id w) ws (cachedTurn l g v (Write id w) b) (plainTurn l g v (Write id w) p)
+      pub write-turn : Goes b (Write id w) ws (cachedTurn l g v (Write id w) b) (plainTurn l g v (Write id w) p)
       unfolding since
       write-turn = by-length (ltb 65528 (length w)) refl
         where
           by-size : ltb 65528 (length w) ≡ false → isInput id ≡ true → (y : Bool) → eqb (length w) (elementOf id .size) ≡ y
-              → Goes (Write id w) ws (cachedTurn l g v (Write id w) b) (plainTurn l g v (Write id w) p)
+              → Goes b (Write id w) ws (cachedTurn l g v (Write id w) b) (plainTurn l g v (Write id w) p)
           by-size a x true e =
               wrote (record { answer = success 0; cache = change (b .cache) id w }) (accept 0 (placed at (id, w) p)) (cached-write false true true a x e) (write-good l so g v j below p plain-ours id w a (input-common id x) small x e)
               (record { same = record { shown = refl; stores = tt; input = tt }; next = write-inv id w x (eqb-true _ _ e) })
@@ -249,7 +249,7 @@ module _ (l : Layout) (so : Sound l) (g v j : ℕ) (below : j < l .slots) where
               wrote (record { answer = refusal (Element Size first); cache = b .cache }) (refuse p [] (Element Size firstPlace)) (cached-write false true false a x e) (write-size l so g v j below p plain-ours id w a (input-common id x) small x e)
               (record { same = record { shown = refl; stores = tt; input = tt }; next = i })
 
-          by-special : ltb 65528 (length w) ≡ false → isInput id ≡ false → (u : Bool) → isSpecial id ≡ u → Goes (Write id w) ws (cachedTurn l g v (Write id w) b) (plainTurn l g v (Write id w) p)
+          by-special : ltb 65528 (length w) ≡ false → isInput id ≡ false → (u : Bool) → isSpecial id ≡ u → Goes b (Write id w) ws (cachedTurn l g v (Write id w) b) (plainTurn l g v (Write id w) p)
           by-special a x true e =
               wrote (record { answer = refusal (Element Id first); cache = b .cache }) (refuse p [] (Element Id first)) (cached-write false false (eqb (length w) (elementOf id .size)) a x refl) (write-special l so g v j below p plain-ours id w a e)
               (record { same = record { shown = refl; stores = tt; input = tt }; next = i })
@@ -257,11 +257,11 @@ module _ (l : Layout) (so : Sound l) (g v j : ℕ) (below : j < l .slots) where
               wrote (record { answer = refusal (Element Id first); cache = b .cache }) (refuse p [] (Element Id firstPlace)) (cached-write false false (eqb (length w) (elementOf id .size)) a x refl) (write-id l so g v j below p plain-ours id w a e small x)
               (record { same = record { shown = refl; stores = tt; input = tt }; next = i })
 
-          by-input : ltb 65528 (length w) ≡ false → (x : Bool) → isInput id ≡ x → Goes (Write id w) ws (cachedTurn l g v (Write id w) b) (plainTurn l g v (Write id w) p)
+          by-input : ltb 65528 (length w) ≡ false → (x : Bool) → isInput id ≡ x → Goes b (Write id w) ws (cachedTurn l g v (Write id w) b) (plainTurn l g v (Write id w) p)
           by-input a true x = by-size a x (eqb (length w) (elementOf id .size)) refl
           by-input a false x = by-special a x (isSpecial id) refl
 
-          by-length : (a : Bool) → ltb 65528 (length w) ≡ a → Goes (Write id w) ws (cachedTurn l g v (Write id w) b) (plainTurn l g v (Write id w) p)
+          by-length : (a : Bool) → ltb 65528 (length w) ≡ a → Goes b (Write id w) ws (cachedTurn l g v (Write id w) b) (plainTurn l g v (Write id w) p)
           by-length true a =
               wrote (record { answer = refusal Length; cache = b .cache }) (refuse p [] Length) (cached-write true (isInput id) (eqb (length w) (elementOf id .size)) a refl refl) (write-long l so g v j below p plain-ours id w a)
               (record { same = record { shown = refl; stores = tt; input = tt }; next = i })

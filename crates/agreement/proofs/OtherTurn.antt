@@ -70,7 +70,7 @@ module _ (l : Layout) (so : Sound l) (g v j : ℕ) (below : j < l .slots) (c : C
           holds = λ e h u. i .holds e h u ∙ sym (values-value l so g v j below p (outcome l p c .store) r (threadElement e .id) (number-named e h));
         }
 
-    pub other-turn : Goes l so g v j below (Other c) ws (cachedTurn l g v (Other c) b) (plainTurn l g v (Other c) p)
+    pub other-turn : Goes l so g v j below b (Other c) ws (cachedTurn l g v (Other c) b) (plainTurn l g v (Other c) p)
     unfolding cachedTurn plainTurn since registers
     other-turn = record {
       same = record {

@@ -66,9 +66,9 @@ module _ (l : Layout) (so : Sound l) (g v j : ℕ) (below : j < l .slots) (b : C
   plainOf o = record { shown = seen Name.GetState (o .answer) (valueIn (o .buffer) (length w)); next = o .store; input = [] }
 
   got : (r : Got) (o : Outcome) → readCache l (b .store) g v (b .cache) id w ≡ r → readPlain l p g v id w ≡ o
-      → Goes l so g v j below (Read id w) ws (cachedOf r) (plainOf o) → Goes l so g v j below (Read id w) ws (cachedTurn l g v (Read id w) b) (plainTurn l g v (Read id w) p)
+      → Goes l so g v j below b (Read id w) ws (cachedOf r) (plainOf o) → Goes l so g v j below b (Read id w) ws (cachedTurn l g v (Read id w) b) (plainTurn l g v (Read id w) p)
   unfolding cachedTurn plainTurn
-  got r o e q t = as-turned l so g v j below (Read id w) ws _ _ _ _ (ap cachedOf e) (ap plainOf q) t
+  got r o e q t = as-turned l so g v j below b (Read id w) ws _ _ _ _ (ap cachedOf e) (ap plainOf q) t
 
   -- the same numbers, and the same value
   shows : (r : Registers) (x y : List ℕ) → x ≡ y → _≡_ {A = Seen} (record { answer = r; buffer = x }) (record { answer = r; buffer = y })
@@ -105,7 +105,7 @@ module _ (l : Layout) (so : Sound l) (g v j : ℕ) (below : j < l .slots) (b : C
         ap (λ (o : Outcome). fetched (b .cache) id (length w) o) (get-good l so g v j below (b .store) (i .ours) id w a (readable-common id x) small x y)
         ∙ ap (λ (z : List ℕ). record { answer = success 0; cache = keep (b .cache) id z; value = z }) (store-value ∙ sym (unwritten l so g v j below b p ws i id named u))
 
-    good-turn : (u : Bool) → valid (b .cache) (numberOf id) ≡ u → Goes l so g v j below (Read id w) ws (cachedTurn l g v (Read id w) b) (plainTurn l g v (Read id w) p)
+    good-turn : (u : Bool) → valid (b .cache) (numberOf id) ≡ u → Goes l so g v j below b (Read id w) ws (cachedTurn l g v (Read id w) b) (plainTurn l g v (Read id w) p)
     unfolding since
     good-turn true u =
         got served (fillWith p place (one id w)) (cached-read false true true true a x y u) plain-good
@@ -115,12 +115,12 @@ module _ (l : Layout) (so : Sound l) (g v j : ℕ) (below : j < l .slots) (b : C
         (record { same = record { shown = shows (three 0 0 0) _ _ (sym plain-value); stores = tt; input = tt }; next = keep-inv l so g v j below b p ws i id named (unchanged l so g v j below b p ws i id named u) })
 
   -- ---- every read
-  pub read-turn : Goes l so g v j below (Read id w) ws (cachedTurn l g v (Read id w) b) (plainTurn l g v (Read id w) p)
+  pub read-turn : Goes l so g v j below b (Read id w) ws (cachedTurn l g v (Read id w) b) (plainTurn l g v (Read id w) p)
   unfolding since
   read-turn = by-length (ltb 65528 (length w)) refl
     where
       by-size : ltb 65528 (length w) ≡ false → isReadable id ≡ true → (y : Bool) → eqb (length w) (elementOf id .size) ≡ y
-          → Goes l so g v j below (Read id w) ws (cachedTurn l g v (Read id w) b) (plainTurn l g v (Read id w) p)
+          → Goes l so g v j below b (Read id w) ws (cachedTurn l g v (Read id w) b) (plainTurn l g v (Read id w) p)
       by-size a x true y = good-turn a x y (valid (b .cache) (numberOf id)) refl
       by-size a x false y =
           got (record { answer = refusal (Element Size first); cache = b .cache; value = w }) (refuse p (one id w) (Element Size firstPlace)) (cached-read false true false (valid (b .cache) (numberOf id)) a x y refl)
@@ -128,7 +128,7 @@ module _ (l : Layout) (so : Sound l) (g v j : ℕ) (below : j < l .slots) (b : C
           (record { same = record { shown = shows (three 7 0 0) _ _ left-alone; stores = tt; input = tt }; next = i })
 
       by-special : ltb 65528 (length w) ≡ false → isReadable id ≡ false → (u : Bool) → isSpecial id ≡ u
-          → Goes l so g v j below (Read id w) ws (cachedTurn l g v (Read id w) b) (plainTurn l g v (Read id w) p)
+          → Goes l so g v j below b (Read id w) ws (cachedTurn l g v (Read id w) b) (plainTurn l g v (Read id w) p)
       by-special a x true u =
           got (record { answer = refusal (Element Id first); cache = b .cache; value = w }) (refuse p (one id w) (Element Id first)) (cached-read false false (eqb (length w) (elementOf id .size)) (valid (b .cache) (numberOf id)) a x refl refl)
           (read-special l so g v j below p (plain-ours l so g v j below b p ws i) id w a u)
@@ -138,11 +138,11 @@ module _ (l : Layout) (so : Sound l) (g v j : ℕ) (below : j < l .slots) (b : C
           (read-id l so g v j below p (plain-ours l so g v j below b p ws i) id w a u small x)
           (record { same = record { shown = shows (three 6 0 0) _ _ left-alone; stores = tt; input = tt }; next = i })
 
-      by-readable : ltb 65528 (length w) ≡ false → (x : Bool) → isReadable id ≡ x → Goes l so g v j below (Read id w) ws (cachedTurn l g v (Read id w) b) (plainTurn l g v (Read id w) p)
+      by-readable : ltb 65528 (length w) ≡ false → (x : Bool) → isReadable id ≡ x → Goes l so g v j below b (Read id w) ws (cachedTurn l g v (Read id w) b) (plainTurn l g v (Read id w) p)
       by-readable a true x = by-size a x (eqb (length w) (elementOf id .size)) refl
       by-readable a false x = by-special a x (isSpecial id) refl
 
-      by-length : (a : Bool) → ltb 65528 (length w) ≡ a → Goes l so g v j below (Read id w) ws (cachedTurn l g v (Read id w) b) (plainTurn l g v (Read id w) p)
+      by-length : (a : Bool) → ltb 65528 (length w) ≡ a → Goes l so g v j below b (Read id w) ws (cachedTurn l g v (Read id w) b) (plainTurn l g v (Read id w) p)
       by-length true a =
           got (record { answer = refusal Length; cache = b .cache; value = w }) (refuse p (one id w) Length)
           (cached-read true (isReadable id) (eqb (length w) (elementOf id .size)) (valid (b .cache) (numberOf id)) a refl refl refl) (read-long l so g v j below p (plain-ours l so g v j below b p ws i) id w a)

@@ -6,7 +6,7 @@ use Prim.Native.Nat.{ℕ, _+_, _≤_, _<_}
 use native.Mathlib.Omega.{arith}
 use lib.Dec.{eqb, ltb, leb}
 use lib.ListN.{length}
-use borrow.Author.Tests.{le-ltb, ltb-false, leb-true, not-false, ne-eqb}
+use borrow.Author.Tests.{le-ltb, ltb-false, leb-true, not-false, eqb-true, ne-eqb}
 use Rattle.octets.specs.Bytes.{bytesAt, put, zeros}
 use Rattle.octets.proofs.Bytes.{length-put, length-zeros}
 use Rattle.answer.specs.declared.Fault.{Fault}
@@ -43,11 +43,11 @@ use Rattle.promises.proofs.Used.{none-told}
 use Rattle.marks.specs.Marks.{Cache}
 use Rattle.l1.specs.Cache.{pending, refreshed, Ran, ranWith, runCache}
 use Rattle.agreement.specs.Plain.{runPlain}
-use Rattle.agreement.specs.Agree.{Op, Run, seen, Turn, Cached, cachedTurn, plainTurn, since, inOrder}
+use Rattle.agreement.specs.Agree.{Op, Run, seen, Turn, Cached, cachedTurn, plainTurn, since, inOrder, Holds, registeredInput}
 use Rattle.agreement.proofs.Ours.{Ours, ours-base, ours-room, back-header, back-input, back-output}
 use Rattle.agreement.proofs.Caches.{pending-due}
 use Rattle.agreement.proofs.Invariant.{at, Inv, Goes, as-turned, plain-ours, cache-good}
-use Rattle.agreement.proofs.Flush.{due-applied, due-good, due-need}
+use Rattle.agreement.proofs.Flush.{due-applied, due-good, due-need, due-held}
 use Rattle.l1.proofs.Returned.{returned-named}
 use Rattle.agreement.proofs.Refresh.{refreshed-is, empty-inv, keep-all-inv}
 use Rattle.agreement.proofs.Effects.{effect-input, effect-output}
@@ -300,15 +300,15 @@ module _ (l : Layout) (so : Sound l) (g v j : ℕ) (below-slots : j < l .slots) 
     op = Run flags input output effect exit
 
     ran-turn : (r : Ran) (o : Outcome) → runCache l s (b .cache) flags g v input output effect exit ≡ r → runPlain l p flags g v input output effect exit ≡ o
-        → Goes l so g v j below-slots op ws (cachedOf r) (plainOf o) → Goes l so g v j below-slots op ws (cachedTurn l g v op b) (plainTurn l g v op p)
+        → Goes l so g v j below-slots b op ws (cachedOf r) (plainOf o) → Goes l so g v j below-slots b op ws (cachedTurn l g v op b) (plainTurn l g v op p)
     unfolding cachedTurn plainTurn
-    ran-turn r o e q t = as-turned l so g v j below-slots op ws _ _ _ _ (ap cachedOf e) (ap plainOf q) t
+    ran-turn r o e q t = as-turned l so g v j below-slots b op ws _ _ _ _ (ap cachedOf e) (ap plainOf q) t
 
     -- a refusal keeps everything
-    refused-turn : (f : Fault) → (f ≡ None → ⊥) → Goes l so g v j below-slots op ws (cachedOf (refusedRun f)) (plainOf (refuse p output f))
+    refused-turn : (f : Fault) → (f ≡ None → ⊥) → Goes l so g v j below-slots b op ws (cachedOf (refusedRun f)) (plainOf (refuse p output f))
     unfolding since
     refused-turn f n = record {
-      same = record { shown = ap (λ (r : Registers). record { answer = r; buffer = output }) (run-told f 0); stores = λ z. absurd (n (none-told Name.RunVcpu f 0 z)); input = λ z. absurd (n (none-told Name.RunVcpu f 0 z)) };
+      same = record { shown = ap (λ (r : Registers). record { answer = r; buffer = output }) (run-told f 0); stores = λ z. absurd (n (none-told Name.RunVcpu f 0 (eqb-true _ _ z))); input = λ z. absurd (n (none-told Name.RunVcpu f 0 (eqb-true _ _ z))) };
       next = subst (λ (t : Bool). Inv l so g v j below-slots b p (cond t [] ws)) (sym (not-zero (told Name.RunVcpu f 0 .r3) (λ z. n (none-told Name.RunVcpu f 0 z)))) i;
     }
       where
@@ -370,27 +370,33 @@ module _ (l : Layout) (so : Sound l) (g v j : ℕ) (below-slots : j < l .slots) 
           gu : goodOutput (outputSize then place) ≡ true
           gu = ap goodOutput then-output ∙ i .output
 
-      accepted-turn : Goes l so g v j below-slots op ws (cachedTurn l g v op b) (plainTurn l g v op p)
+      -- the input that it leaves
+      held : Holds input (registeredInput l g v s) (inOrder ws 170) laid
+      held =
+          subst (λ (n : ℕ). Holds input n (inOrder ws 170) laid) (sym (ap (inputSize s) (ours-base l so g v j below-slots s (i .ours))))
+          (due-held input laid (inputSize s place) ws (i .fit) (ap (λ (es : List (ℕ × List ℕ)). put input 0 (message es)) waits) (omega (arith, due-need ws (i .fit), i .wide)) (open-lent e .lent))
+
+      accepted-turn : Goes l so g v j below-slots b op ws (cachedTurn l g v op b) (plainTurn l g v op p)
       unfolding since ranWith
       accepted-turn =
           ran-turn (ranWith (b .cache) laid (left e)) (left e)
           (cached-as ∙ begin-admitted refusedRun goneOn firsts (ends s) e ∙ all-admitted refusedRun goneOn (ends s) a ∙ ap (ranWith (b .cache) laid) (cached-ran e a))
           (plain-on e ∙ all-admitted (refuse p output) (ran place p (zeros (inputSize s place)) output effect exit) (ends s) a ∙ left-by e p (zeros (inputSize s place)) (plain-store e))
           (record {
-            same = record { shown = refl; stores = λ z. refl; input = λ z. ap (λ (es : List (ℕ × List ℕ)). put input 0 (message es)) waits };
+            same = record { shown = refl; stores = λ z. refl; input = λ z. held };
             next = next-inv;
           })
 
-    pub run-turn : Goes l so g v j below-slots op ws (cachedTurn l g v op b) (plainTurn l g v op p)
+    pub run-turn : Goes l so g v j below-slots b op ws (cachedTurn l g v op b) (plainTurn l g v op p)
     run-turn = by-firsts (judgement firsts) refl
       where
-        by-ends : judgement firsts ≡ Admitted → (x : Admission) → judgement (ends s) ≡ x → Goes l so g v j below-slots op ws (cachedTurn l g v op b) (plainTurn l g v op p)
+        by-ends : judgement firsts ≡ Admitted → (x : Admission) → judgement (ends s) ≡ x → Goes l so g v j below-slots b op ws (cachedTurn l g v op b) (plainTurn l g v op p)
         by-ends e Admitted q = accepted-turn e q
         by-ends e (Refused f) q =
             ran-turn (refusedRun f) (refuse p output f) (cached-as ∙ begin-admitted refusedRun goneOn firsts (ends s) e ∙ all-refused refusedRun goneOn (ends s) f q)
             (plain-on e ∙ all-refused (refuse p output) (ran place p (zeros (inputSize s place)) output effect exit) (ends s) f q) (refused-turn f (real-fault (ends s) (ends-real s) f q))
 
-        by-firsts : (x : Admission) → judgement firsts ≡ x → Goes l so g v j below-slots op ws (cachedTurn l g v op b) (plainTurn l g v op p)
+        by-firsts : (x : Admission) → judgement firsts ≡ x → Goes l so g v j below-slots b op ws (cachedTurn l g v op b) (plainTurn l g v op p)
         by-firsts Admitted e = by-ends e (judgement (ends s)) refl
         by-firsts (Refused f) e =
             ran-turn (refusedRun f) (refuse p output f) (cached-as ∙ begin-refused refusedRun goneOn firsts (ends s) f e) (plain-off f e)

@@ -1,17 +1,18 @@
--- 01, "The L1 cache", demand 3: for every list of operations, the L1 with the cache and the plain L1 agree. The theorem is `cache-agrees`.
-use Prim.Native.Nat.{ℕ, zero, suc, _^_, _≤_, _<_}
+-- Demand 3, and 01, "The L1 cache": for every list of operations, the L1 with the cache and the plain L1 agree. The theorem is `cache-agrees`.
+use Prim.Native.Nat.{ℕ, zero, suc, _+_, _^_, _≤_, _<_}
 use mathlib.Core.Path.{_≡_}
 use mathlib.Core.Bool.{true, false, cond}
 use mathlib.Core.List.{List, [], _∷_, _++_}
 use lib.Dec.{eqb}
 use lib.ListN.{length}
-use Rattle.octets.specs.Bytes.{put, zeros}
+use Rattle.octets.specs.Bytes.{bytesAt, put, zeros}
 use Rattle.answer.specs.declared.Answer.{Answer}
 use Rattle.answer.specs.declared.Call.{Call as Name}
 use Rattle.answer.specs.declared.Registers.{Registers}
-use Rattle.answer.specs.Answer.{told}
+use Rattle.answer.specs.Answer.{told, accepted}
 use Rattle.elements.specs.Table.{threadElement}
 use Rattle.rules.specs.Rules.{goodInput, goodOutput}
+use Rattle.gsb.specs.Walk.{countOf, idAt, sizeAt, offsetAt}
 use Rattle.gsb.specs.Message.{message}
 use Rattle.store.specs.declared.Layout.{Layout}
 use Rattle.store.specs.Layout.{slotBytes}
@@ -53,7 +54,7 @@ pub record Cached : Type 0 where
   pub cache : Cache
   pub store : List ℕ
 
--- "Each call gets the store and cache that the last one left, and its own buffers."
+-- 01: "Each call gets the store and cache that the last one left, and its own buffers."
 unfoldable pub cachedTurn : Layout → ℕ → ℕ → Op → Cached → Turn Cached
 cachedTurn l guest vcpu (Write id v) b =
     let r = writeCache (b .cache) id v in
@@ -82,12 +83,12 @@ plainTurn l guest vcpu (Other c) s =
     let o = outcome l s c in
     record { shown = record { answer = registers l s c; buffer = o .buffer }; next = o .store; input = [] }
 
--- ---- "exactly the elements that accepted writes named since the previous accepted run, once each, in order of ID, newest values"
+-- ---- demand 3: "exactly the elements that accepted writes named since the previous accepted run, once each, in order of ID, newest values"
 -- the accepted writes since then, newest first, by the operation and its answer alone
 unfoldable pub since : Op → Registers → List (ℕ × List ℕ) → List (ℕ × List ℕ)
-since (Write id v) r ws = cond (eqb (r .r3) 0) ((id, v) ∷ ws) ws
+since (Write id v) r ws = cond (accepted r) ((id, v) ∷ ws) ws
 since (Read id v) r ws = ws
-since (Run flags input output effect exit) r ws = cond (eqb (r .r3) 0) [] ws
+since (Run flags input output effect exit) r ws = cond (accepted r) [] ws
 since (Other c) r ws = ws
 
 -- the newest of them that names an ID, if one does
@@ -100,34 +101,51 @@ unfoldable pub inOrder : List (ℕ × List ℕ) → ℕ → List (ℕ × List �
 inOrder ws zero = []
 inOrder ws (suc n) = inOrder ws n ++ newest ws (threadElement n .id)
 
+-- ---- demand 3: "that run's input holds a count and exactly the elements that .."
+-- the first n elements of a buffer, each its ID and its value
+unfoldable pub elementsIn : List ℕ → ℕ → List (ℕ × List ℕ)
+elementsIn b zero = []
+elementsIn b (suc n) = elementsIn b n ++ ((idAt b (offsetAt b n), bytesAt b (offsetAt b n + 4) (sizeAt b (offsetAt b n))) ∷ [])
+
+-- b, the lent input after the run, holds es. 01, "Run": "The input is the first bytes of the lent one, as many as registered."
+pub record Holds (lent : List ℕ) (registered : ℕ) (es : List (ℕ × List ℕ)) (b : List ℕ) : Type 0 where
+  -- a count and es in its first bytes, the rest as lent
+  pub bytes : b ≡ put lent 0 (message es)
+  -- and all of them: within the registered bytes, which lie within the lent ones
+  pub fits : length (message es) ≤ registered
+  pub within : registered ≤ length lent
+  -- so that the run reads that count there, and those elements
+  pub count : countOf (bytesAt b 0 registered) ≡ length es
+  pub elements : elementsIn (bytesAt b 0 registered) (length es) ≡ es
+
 -- ---- what the two have in common after an operation o, before which the accepted writes were ws
-abbrev pub AfterRun : Op → Registers → Type 0 → Type 0
+-- a claim about the lent input of an accepted run
+abbrev pub AfterRun : Op → Registers → (List ℕ → Type 0) → Type 0
 AfterRun (Write id v) r claim = Unit {0}
 AfterRun (Read id v) r claim = Unit {0}
-AfterRun (Run flags input output effect exit) r claim = r .r3 ≡ 0 → claim
+AfterRun (Run flags input output effect exit) r claim = accepted r ≡ true → claim input
 AfterRun (Other c) r claim = Unit {0}
 
--- the lent input, with a count and the elements in its first bytes
-abbrev pub inputWith : Op → List (ℕ × List ℕ) → List ℕ
-inputWith (Write id v) es = []
-inputWith (Read id v) es = []
-inputWith (Run flags input output effect exit) es = put input 0 (message es)
-inputWith (Other c) es = []
-
-pub record Same (o : Op) (ws : List (ℕ × List ℕ)) (c : Turn Cached) (p : Turn (List ℕ)) : Type 0 where
+pub record Same (registered : ℕ) (o : Op) (ws : List (ℕ × List ℕ)) (c : Turn Cached) (p : Turn (List ℕ)) : Type 0 where
+  -- demand 3: "a plain L1 without a cache gets the same answers, values, outputs and buffers"
   pub shown : c .shown ≡ p .shown
-  pub stores : AfterRun o (p .shown .answer) (c .next .store ≡ p .next)
-  pub input : AfterRun o (p .shown .answer) (c .input ≡ inputWith o (inOrder ws 170))
+  -- demand 3: "the stores are equal after each accepted run; and that run's input holds .."
+  pub stores : AfterRun o (p .shown .answer) (λ lent. c .next .store ≡ p .next)
+  pub input : AfterRun o (p .shown .answer) (λ lent. Holds lent registered (inOrder ws 170) (c .input))
 
--- the whole list
+-- the size of the run input that the vCPU has registered in the store s
+abbrev pub registeredInput : Layout → ℕ → ℕ → List ℕ → ℕ
+registeredInput l guest vcpu s = inputSize s (baseOf l s false guest vcpu)
+
+-- the whole list; demand 3: "One theorem about the whole list"
 abbrev pub Agree : Layout → ℕ → ℕ → List Op → List (ℕ × List ℕ) → Cached → List ℕ → Type 0
 Agree l guest vcpu [] ws b s = Unit {0}
 Agree l guest vcpu (o ∷ os) ws b s =
-    Same o ws (cachedTurn l guest vcpu o b) (plainTurn l guest vcpu o s)
+    Same (registeredInput l guest vcpu (b .store)) o ws (cachedTurn l guest vcpu o b) (plainTurn l guest vcpu o s)
     × Agree l guest vcpu os (since o (plainTurn l guest vcpu o s .shown .answer) ws) (cachedTurn l guest vcpu o b .next) (plainTurn l guest vcpu o s .next)
 
 -- ---- what it rests on
--- an ID is a number of 16 bits; "with any calls on other guests between"
+-- an ID is a number of 16 bits; demand 3: "with any calls on other guests between"
 abbrev pub Allowed : ℕ → List Op → Type 0
 Allowed guest [] = Unit {0}
 Allowed guest (Write id v ∷ os) = (id < 2 ^ 16) × Allowed guest os
@@ -135,13 +153,14 @@ Allowed guest (Read id v ∷ os) = (id < 2 ^ 16) × Allowed guest os
 Allowed guest (Run flags input output effect exit ∷ os) = Allowed guest os
 Allowed guest (Other c ∷ os) = Elsewhere guest c × Allowed guest os
 
--- "For a live vCPU with both run buffers registered (the input with at least 2,424 bytes) and an empty L1 cache"
+-- demand 3: "For a live vCPU with both run buffers registered (the input with at least 2,424 bytes) and an empty L1 cache"
 pub record Start (l : Layout) (guest vcpu : ℕ) (s : List ℕ) (c : Cache) : Type 0 where
-  -- "Live: a used slot word names the vCPU." The words of a store that is not well formed name nothing.
+  -- 01: "Live: a used slot word names the vCPU." A vCPU is live only in a well-formed store: the words of another name nothing. In
+  -- another the two differ: a good write is answered 1 by the plain L1, whose write is a set state, and 0 by the cache, which sees no store.
   pub formed : wellFormed l s ≡ true
   pub live : slotOf l (header l s) guest vcpu < l .slots
-  pub input : goodInput (inputSize s (baseOf l s false guest vcpu)) ≡ true
-  pub wide : 2424 ≤ inputSize s (baseOf l s false guest vcpu)
+  pub input : goodInput (registeredInput l guest vcpu s) ≡ true
+  pub wide : 2424 ≤ registeredInput l guest vcpu s
   pub output : goodOutput (outputSize s (baseOf l s false guest vcpu)) ≡ true
   pub values : length (c .values) ≡ slotBytes
   pub empty : c .marks ≡ zeros 6

@@ -1,5 +1,7 @@
 -- 01, "Answers": R3, R4 and R5 of each fault, laid out like its table.
 use Prim.Native.Nat.{ℕ}
+use mathlib.Core.Bool.{Bool}
+use lib.Dec.{eqb}
 use Rattle.answer.specs.declared.Bad.{Bad}
 use Rattle.answer.specs.declared.Bad.the-variants.{Id, Size, Value}
 use Rattle.answer.specs.declared.Place.{Place}
@@ -11,7 +13,7 @@ use Rattle.answer.specs.declared.Call.{Call}
 use Rattle.answer.specs.declared.Call.the-variants.{FreshStore, GetCapabilities, SetCapabilities, CreateGuest, CreateVcpu, GetState, SetState, RunVcpu, DeleteGuest, GuestClock, Lookup, CacheWrite, CacheRead, CacheRun}
 use Rattle.answer.specs.declared.Registers.{Registers}
 
--- "6 / 7 / 8: invalid element ID / size / value"
+-- the row "6 / 7 / 8", "invalid element ID / size / value"
 abbrev pub badNumber : Bad → ℕ
 badNumber Id = 6
 badNumber Size = 7
@@ -61,3 +63,7 @@ told c (Short buffer) v = three 12 (bufferNumber buffer) 0
 told c Exit v = three 13 0 0
 told c (Effect place) v = three 14 (place .offset) 0
 told c Cache v = three 15 0 0
+
+-- 01, "The L1 cache": "Accepted: R3 is 0."
+abbrev pub accepted : Registers → Bool
+accepted r = eqb (r .r3) 0

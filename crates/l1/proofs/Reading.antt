@@ -6,7 +6,6 @@ use Prim.Native.Nat.{ℕ, _+_, _≤_, _<_}
 use native.Mathlib.Nat.{eq-zero-or-pos}
 use native.Mathlib.Omega.{arith}
 use mathlib.Core.Logic.{_⊎_, inl, inr}
-use lib.Dec.{eqb}
 use lib.ListN.{length}
 use borrow.Author.Tests.{not-true, not-false}
 use Rattle.octets.specs.Bytes.{bytesAt, put}
@@ -16,7 +15,7 @@ use Rattle.answer.specs.declared.Answer.{Answer}
 use Rattle.answer.specs.declared.Call.{Call}
 use Rattle.answer.specs.declared.Call.the-variants.{CacheRead}
 use Rattle.answer.specs.declared.Registers.{Registers}
-use Rattle.answer.specs.Answer.{told}
+use Rattle.answer.specs.Answer.{told, accepted}
 use Rattle.answer.specs.Refusals.{firstOf}
 use Rattle.rules.specs.declared.Usage.the-variants.{ThreadGet}
 use Rattle.elements.specs.declared.Element.{Element as Thing}
@@ -31,12 +30,12 @@ use Rattle.admission.specs.Refusals.{success, refusal, judgement}
 use Rattle.state.specs.State.{gotElement}
 use Rattle.admission.proofs.Judging.{all-refused, all-admitted}
 use Rattle.marks.specs.Marks.{Cache, isMarked, allowed, isReadable, isSpecial}
-use Rattle.l1.specs.Cache.{Got, accepted, keep, fetched, readCache}
+use Rattle.l1.specs.Cache.{Got, keep, fetched, readCache}
 use Rattle.l1.specs.Private.{elementTests, elementGood, readValue}
 use Rattle.l1.proofs.Values.{number-inside, readable-thread, thread-number}
 
-pub accepted-as : (c : Call) (a : Answer) (r : Registers) → r ≡ told c (a .fault) (a .value) → eqb (r .r3) 0 ≡ accepted c a
-accepted-as c a r e = ap (λ (x : Registers). eqb (x .r3) 0) e
+pub accepted-as : (c : Call) (a : Answer) (r : Registers) → r ≡ told c (a .fault) (a .value) → accepted r ≡ accepted (told c (a .fault) (a .value))
+accepted-as c a r e = ap (λ (x : Registers). accepted x) e
 
 -- ---- an ID that can be read
 module _ (id : ℕ) (e : isReadable id ≡ true) where
@@ -58,7 +57,7 @@ module _ (id : ℕ) (e : isReadable id ≡ true) where
   readable-number = thread-number id (readable-thread id e)
 
 -- ---- an element that is not valid
-module _ (s : List ℕ) (guest vcpu id : ℕ) (vs ms v w : List ℕ) (r : Answer) (e : r ≡ gotElement s guest vcpu id v .answer) (q : w ≡ bytesAt (gotElement s guest vcpu id v .buffer) 8 (length v)) (t : Bool) (p : t ≡ accepted CacheRead r) where
+module _ (s : List ℕ) (guest vcpu id : ℕ) (vs ms v w : List ℕ) (r : Answer) (e : r ≡ gotElement s guest vcpu id v .answer) (q : w ≡ bytesAt (gotElement s guest vcpu id v .buffer) 8 (length v)) (t : Bool) (p : t ≡ accepted (told CacheRead (r .fault) (r .value))) where
   abbrev c : Cache
   c = record { values = vs; marks = ms }
 
@@ -66,12 +65,12 @@ module _ (s : List ℕ) (guest vcpu id : ℕ) (vs ms v w : List ℕ) (r : Answer
   unfolding fetched
   fetched-as b h =
       ap (λ (y : Bool). record { answer = r; cache = cond y (keep c id w) c; value = w }) (sym h ∙ p)
-      ∙ ap₂ (λ (x : Answer) (y : List ℕ). record { answer = x; cache = cond (accepted CacheRead x) (keep c id y) c; value = y }) e q
+      ∙ ap₂ (λ (x : Answer) (y : List ℕ). record { answer = x; cache = cond (accepted (told CacheRead (x .fault) (x .value))) (keep c id y) c; value = y }) e q
 
   pub fetch-refused : not t ≡ true → _≡_ {A = Got} (record { answer = r; cache = record { values = vs; marks = ms }; value = w }) (fetched (record { values = vs; marks = ms }) id (length v) (gotElement s guest vcpu id v))
   fetch-refused n = fetched-as false (not-true t n)
 
-pub fetch-kept : (s : List ℕ) (guest vcpu id : ℕ) (vs ms v w us ns : List ℕ) (r : Answer) (t : Bool) → _≡_ {A = Cache} (record { values = us; marks = ns }) (keep (record { values = vs; marks = ms }) id w) → not t ≡ false → t ≡ accepted CacheRead r
+pub fetch-kept : (s : List ℕ) (guest vcpu id : ℕ) (vs ms v w us ns : List ℕ) (r : Answer) (t : Bool) → _≡_ {A = Cache} (record { values = us; marks = ns }) (keep (record { values = vs; marks = ms }) id w) → not t ≡ false → t ≡ accepted (told CacheRead (r .fault) (r .value))
     → r ≡ gotElement s guest vcpu id v .answer → w ≡ bytesAt (gotElement s guest vcpu id v .buffer) 8 (length v)
     → _≡_ {A = Got} (record { answer = r; cache = record { values = us; marks = ns }; value = w }) (fetched (record { values = vs; marks = ms }) id (length v) (gotElement s guest vcpu id v))
 fetch-kept s guest vcpu id vs ms v w us ns r t k n p e q =

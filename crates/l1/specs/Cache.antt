@@ -10,9 +10,8 @@ use Rattle.answer.specs.declared.Place.{Place}
 use Rattle.answer.specs.declared.Fault.{Fault}
 use Rattle.answer.specs.declared.Fault.the-variants.{Length, Element, Cache as CacheBad}
 use Rattle.answer.specs.declared.Answer.{Answer}
-use Rattle.answer.specs.declared.Call.{Call}
 use Rattle.answer.specs.declared.Call.the-variants.{CacheRead}
-use Rattle.answer.specs.Answer.{told}
+use Rattle.answer.specs.Answer.{told, accepted}
 use Rattle.answer.specs.Refusals.{firstOf}
 use Rattle.elements.specs.Table.{numberOf, threadElement}
 use Rattle.gsb.specs.Walk.{countOf, idAt, offsetAt}
@@ -53,10 +52,6 @@ pub record Got : Type 0 where
   pub cache : Cache
   pub value : List ℕ
 
--- "Accepted: R3 is 0."
-abbrev pub accepted : Call → Answer → Bool
-accepted c a = eqb (told c (a .fault) (a .value) .r3) 0
-
 unfoldable pub keep : Cache → ℕ → List ℕ → Cache
 keep c id v = record { values = put (c .values) (elementOf id .position) v; marks = withMark (c .marks) (numberOf id) }
 
@@ -68,7 +63,7 @@ abbrev pub valueIn : List ℕ → ℕ → List ℕ
 valueIn b size = bytesAt b 8 size
 
 unfoldable pub fetched : Cache → ℕ → ℕ → Outcome → Got
-fetched c id size o = record { answer = o .answer; cache = cond (accepted CacheRead (o .answer)) (keep c id (valueIn (o .buffer) size)) c; value = valueIn (o .buffer) size }
+fetched c id size o = record { answer = o .answer; cache = cond (accepted (told CacheRead (o .answer .fault) (o .answer .value))) (keep c id (valueIn (o .buffer) size)) c; value = valueIn (o .buffer) size }
 
 unfoldable pub readCache : Layout → List ℕ → ℕ → ℕ → Cache → ℕ → List ℕ → Got
 readCache l s guest vcpu c id v =

@@ -16,15 +16,16 @@ use state::get_element;
 ghost use mathlib.Core.Path.{_≡_};
 ghost use mathlib.Core.Bool.{true};
 ghost use lib.ListN.{length};
+ghost use Rattle.answer.specs.Answer.{told, accepted};
 ghost use Rattle.store.specs.Layout.{small};
 ghost use Rattle.exits.specs.Exits.{elementOf};
 ghost use Rattle.state.specs.State.{gotElement};
 ghost use Rattle.marks.specs.Marks.{isReadable};
-ghost use Rattle.l1.specs.Cache.{Got, accepted, fetched, readCache};
+ghost use Rattle.l1.specs.Cache.{Got, fetched, readCache};
 ghost use Rattle.l1.specs.Private.{readValue};
 
 fn is_accepted(call: Call, answer: Answer) -> bool
-    ensures { λ r. ⌜ r ≡ accepted call answer ⌝ }
+    ensures { λ r. ⌜ r ≡ accepted (told call (answer .fault) (answer .value)) ⌝ }
 {
     registers_of(call, answer).r3 == 0
 }

@@ -6,7 +6,7 @@ use mathlib.Core.List.{List, [], _∷_}
 use lib.Dec.{eqb}
 use Rattle.answer.specs.declared.Call.{Call as Name}
 use Rattle.answer.specs.declared.Registers.{Registers}
-use Rattle.answer.specs.Answer.{told}
+use Rattle.answer.specs.Answer.{told, accepted}
 use Rattle.store.specs.declared.Layout.{Layout}
 use Rattle.store.specs.Search.{tally}
 use Rattle.store.specs.Header.{header, word, isUsed, guestOf, holds}
@@ -29,9 +29,9 @@ nameOf (GuestClock guest timebase) = Name.GuestClock
 unfoldable pub registers : Layout → List ℕ → Call → Registers
 registers l s c = told (nameOf c) (outcome l s c .answer .fault) (outcome l s c .answer .value)
 
--- 01, "The L1 cache": "Accepted: R3 is 0."
+-- whether the call is accepted on the store s
 unfoldable pub isAccepted : Layout → List ℕ → Call → Bool
-isAccepted l s c = eqb (registers l s c .r3) 0
+isAccepted l s c = accepted (registers l s c)
 
 -- "the accepted vCPU creations": one slot for each
 abbrev pub creates : Call → ℕ

@@ -23,7 +23,7 @@ use Rattle.admission.specs.Refusals.{Outcome, success, decide, judgement}
 use Rattle.admission.specs.Target.{targetTests, baseOf}
 use Rattle.state.specs.State.{contextOf, isStopped, badElement}
 
--- 01, "Answers": "Supported: run bits 0 to 2"; they are accepted and change nothing
+-- 01, "Answers": "Supported: .. run bits 0 to 2"; they are accepted and change nothing
 abbrev pub runBits : ℕ
 runBits = 2 ^ 63 + 2 ^ 62 + 2 ^ 61
 
@@ -88,7 +88,7 @@ cachedGood l s flags guest vcpu need inputLength outputLength effect exit =
 unfoldable pub ranStore : ℕ → List ℕ → List ℕ → List ℕ → List ℕ
 ranStore base input effect s = applied base effect (countOf effect) (applied base input (countOf input) s)
 
--- "then the output's first bytes are written, the rest untouched"; R4 is the exit reason
+-- "then the output's first bytes are written: .. the rest untouched"; R4 is the exit reason
 unfoldable pub ran : ℕ → List ℕ → List ℕ → List ℕ → List ℕ → ℕ → Outcome
 ran base s input output effect exit =
     record { answer = success exit; store = ranStore base input effect s; buffer = put output 0 (outputOf base (ranStore base input effect s) exit) }

@@ -10,7 +10,7 @@ use rules::within;
 ghost use mathlib.Core.Path.{_≡_};
 ghost use Prim.Native.Nat.{_+_, _≤_};
 ghost use lib.ListN.{length};
-ghost use Rattle.octets.specs.Bytes.{bytesAt, put};
+ghost use Rattle.octets.specs.Bytes.{bytesAt};
 ghost use Rattle.elements.specs.Table.{kindOf};
 ghost use Rattle.gsb.specs.Walk.{countOf, idAt, nextAt};
 ghost use Rattle.transfer.specs.Transfer.{valueAt, putFrom, putAs, applied, Fits, Moves, Ready, AllReady};
