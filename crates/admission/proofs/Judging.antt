@@ -8,7 +8,7 @@ use Rattle.answer.specs.declared.Fault.{Fault}
 use Rattle.answer.specs.Refusals.{firstOf}
 use Rattle.admission.specs.declared.Admission.{Admission}
 use Rattle.admission.specs.declared.Admission.the-variants.{Admitted, Refused}
-use Rattle.admission.specs.Refusals.{judgement}
+use Rattle.admission.specs.Refusals.{judgement, Passed}
 
 -- what a judgement makes of a call whose outcome is o
 abbrev pub settle : {A : Type 0} → (Fault → A) → A → Admission → A
@@ -63,10 +63,6 @@ module _ {A : Type 0} (turn : Fault → A) (same : (f g : Fault) → turn f ≡ 
       go (Refused f) q = absurd (n f q)
 
 -- ---- no test holds
-abbrev pub Passed : List (Bool × Fault) → Type 0
-Passed [] = Unit {0}
-Passed (x ∷ xs) = (x .0 ≡ false) × Passed xs
-
 no-refusal : {f : Fault} → Refused f ≡ Admitted → ⊥
 no-refusal e = let z : _≡_ {A = ℕ} 0 1 = cc in omega arith
 

@@ -1,6 +1,7 @@
 -- 01, "Answers": what a call leaves, and the tests that most calls begin with, each with its fault.
 use Prim.Native.Nat.{ℕ, _/_, _^_}
-use mathlib.Core.Bool.{Bool, not}
+use mathlib.Core.Path.{_≡_}
+use mathlib.Core.Bool.{Bool, false, not}
 use mathlib.Core.List.{List, [], _∷_}
 use lib.Count.{leadingZeros}
 use lib.Dec.{eqb}
@@ -38,6 +39,11 @@ refuse s b f = record { answer = refusal f; store = s; buffer = b }
 -- "When several apply": the first test that holds refuses the call, whose store is s and whose lent buffer is b; else the outcome is o.
 unfoldable pub decide : List ℕ → List ℕ → List (Bool × Fault) → Outcome → Outcome
 decide s b tests o = firstOf (refuse s b) tests o
+
+-- Demand 2: "Past the earlier checks": none of the tests holds
+abbrev pub Passed : List (Bool × Fault) → Type 0
+Passed [] = Unit {0}
+Passed (x ∷ xs) = (x .0 ≡ false) × Passed xs
 
 -- 1: "store not well formed"
 abbrev pub malformed : Layout → List ℕ → Bool × Fault

@@ -23,7 +23,8 @@ use Rattle.gsb.specs.Walk.{countOf, idAt, offsetAt, firstBad}
 use Rattle.gsb.proofs.Judged.{good-element}
 use Rattle.gsb.proofs.First.{accepted-exactly}
 use Rattle.transfer.specs.Transfer.{applied}
-use Rattle.transfer.proofs.Named.{Named, applied-frame}
+use Rattle.transfer.specs.Named.{Named}
+use Rattle.transfer.proofs.Named.{applied-frame}
 use Rattle.run.specs.Run.{inputSize, outputSize}
 
 -- thread elements begin at 0x0C00

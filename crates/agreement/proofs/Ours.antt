@@ -17,10 +17,9 @@ use Rattle.store.specs.Header.{header, live, slotHolding, wordOf, slotOf}
 use Rattle.store.specs.Store.{wellFormed}
 use Rattle.store.proofs.Frame.{header-values, formed-values, formed}
 use Rattle.exits.specs.Exits.{elementOf}
-use Rattle.admission.specs.Refusals.{bit0}
+use Rattle.admission.specs.Refusals.{bit0, Passed}
 use Rattle.admission.specs.Target.{targetTests, baseOf}
 use Rattle.run.specs.Run.{inputSize, outputSize}
-use Rattle.admission.proofs.Judging.{Passed}
 use Rattle.marks.specs.Marks.{isInput}
 use Rattle.l1.proofs.Cells.{Named, named-end, input-behind, valueOf}
 use Rattle.l1.proofs.Sent.{Fit}

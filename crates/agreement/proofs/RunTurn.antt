@@ -39,7 +39,7 @@ use Rattle.run.specs.Run.{runBits, inputSize, outputSize, lentTests, effectFaul
 use Rattle.admission.proofs.Judging.{begin-refused, begin-admitted, all-refused, all-admitted, judged-passed}
 use Rattle.promises.proofs.Kept.{applied-header, applied-kept}
 use Rattle.promises.proofs.Lowest.{Real}
-use Rattle.promises.proofs.Used.{none-told}
+use Rattle.promises.proofs.Told.{none-told}
 use Rattle.marks.specs.Marks.{Cache}
 use Rattle.l1.specs.Cache.{pending, refreshed, Ran, ranWith, runCache}
 use Rattle.agreement.specs.Plain.{runPlain}

@@ -16,13 +16,14 @@ use Rattle.elements.specs.Table.{numberOf}
 use Rattle.exits.specs.Exits.{elementOf}
 use Rattle.store.specs.declared.Layout.{Layout}
 use Rattle.store.specs.Layout.{small}
-use Rattle.admission.specs.Refusals.{Outcome, success, refusal}
-use Rattle.admission.proofs.Judging.{Passed, each-way}
+use Rattle.admission.specs.Refusals.{Outcome, success, refusal, Passed}
+use Rattle.admission.proofs.Judging.{each-way}
 use Rattle.state.specs.State.{getState}
 use Rattle.run.specs.Run.{cachedTests, cachedGood, ran, runVcpu}
 use Rattle.l0.specs.Calls.{GetState, outcome}
-use Rattle.promises.proofs.Kept.{Unchanged, refused-unchanged}
-use Rattle.promises.proofs.Used.{none-told}
+use Rattle.promises.specs.Promised.{Unchanged}
+use Rattle.promises.proofs.Kept.{refused-unchanged}
+use Rattle.promises.proofs.Told.{none-told}
 use Rattle.marks.specs.Marks.{Cache, valid, isInput, isReadable, goodCache}
 use Rattle.l1.specs.Cache.{valueTests, Wrote, change, writeCache, Got, keep, one, valueIn, fetched, readCache, pending, Ran, ranWith, runCache}
 use Rattle.l1.proofs.Running.{passed-judged, run-accepted}

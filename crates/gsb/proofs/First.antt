@@ -14,16 +14,17 @@ use Rattle.gsb.specs.declared.Verdict.{Verdict}
 use Rattle.gsb.specs.declared.Verdict.the-variants.{Good, Faulty}
 use Rattle.gsb.specs.declared.Walked.the-variants.{Done, Stopped}
 use Rattle.gsb.specs.Walk.{countOf, offsetAt, judged, after, walk, firstBad}
+use Rattle.gsb.specs.First.{FirstBadAt, AllGood}
 use Rattle.gsb.proofs.Judged.{good-element}
 use Rattle.gsb.proofs.Walks.{walk-end, walk-good, walk-bad, after-good, after-bad, offset-start, offset-next, first-start}
 
 -- the first bad element of n that follow one another from index i on, and what is wrong with it
-pub record FirstFrom (k : Context) (b : List ℕ) (i n : ℕ) (bad : Bad) (place : Place) : Type 0 where
-  pub from : i ≤ place .index
-  pub counted : place .index < i + n
-  pub offset : place .offset ≡ offsetAt b (place .index)
-  pub faulty : judged k b (place .offset) ≡ Faulty bad
-  pub before : (j : ℕ) → i ≤ j → j < place .index → judged k b (offsetAt b j) ≡ Good (offsetAt b (j + 1))
+record FirstFrom (k : Context) (b : List ℕ) (i n : ℕ) (bad : Bad) (place : Place) : Type 0 where
+  from : i ≤ place .index
+  counted : place .index < i + n
+  offset : place .offset ≡ offsetAt b (place .index)
+  faulty : judged k b (place .offset) ≡ Faulty bad
+  before : (j : ℕ) → i ≤ j → j < place .index → judged k b (offsetAt b j) ≡ Good (offsetAt b (j + 1))
 
 not-done : (bad : Bad) (place : Place) → Done ≡ Stopped bad place → ⊥
 not-done bad place e = let z : _≡_ {A = ℕ} 0 1 = cc in omega arith
@@ -83,26 +84,26 @@ module _ (k : Context) (b : List ℕ) where
       ∙ ap (λ (x : ℕ). walk (judged k b) (countOf b - x) x (offsetAt b x)) (add-one j)
 
   -- refused, with the place of the first bad element
-  pub refused-exactly : (bad : Bad) (place : Place) → firstBad k b ≡ Stopped bad place ↔ FirstFrom k b 0 (countOf b) bad place
+  pub refused-exactly : (bad : Bad) (place : Place) → firstBad k b ≡ Stopped bad place ↔ (FirstBadAt k b (place .index) bad × (place .offset ≡ offsetAt b (place .index)))
   refused-exactly bad place = (there, back)
     where
-      there : firstBad k b ≡ Stopped bad place → FirstFrom k b 0 (countOf b) bad place
+      there : firstBad k b ≡ Stopped bad place → FirstBadAt k b (place .index) bad × (place .offset ≡ offsetAt b (place .index))
       there e =
           let z : countOf b - 0 ≡ countOf b = omega arith in
-          stopped bad place (countOf b) 0 (ap (λ (n : ℕ). walk (judged k b) n 0 (offsetAt b 0)) (sym z) ∙ sym (reach 0 (omega arith) (λ i m. absurd (omega arith))) ∙ e)
+          let f = stopped bad place (countOf b) 0 (ap (λ (n : ℕ). walk (judged k b) n 0 (offsetAt b 0)) (sym z) ∙ sym (reach 0 (omega arith) (λ i m. absurd (omega arith))) ∙ e) in
+          (record { counted = omega (arith, f .counted); faulty = ap (judged k b) (sym (f .offset)) ∙ f .faulty; before = λ j m. f .before j (omega arith) m }, f .offset)
 
-      back : FirstFrom k b 0 (countOf b) bad place → firstBad k b ≡ Stopped bad place
+      back : FirstBadAt k b (place .index) bad × (place .offset ≡ offsetAt b (place .index)) → firstBad k b ≡ Stopped bad place
       back f =
-          let c : place .index < countOf b = omega (arith, f .counted) in
-          reach (place .index) (omega arith) (λ i m. f .before i (omega arith) m)
-          ∙ walk-bad (judged k b) (countOf b) (place .index) (offsetAt b (place .index)) bad c (ap (judged k b) (sym (f .offset)) ∙ f .faulty)
-          ∙ ap (λ (x : ℕ). Stopped bad (record { index = place .index; offset = x })) (sym (f .offset))
+          reach (place .index) (omega (arith, f .0 .counted)) (f .0 .before)
+          ∙ walk-bad (judged k b) (countOf b) (place .index) (offsetAt b (place .index)) bad (f .0 .counted) (f .0 .faulty)
+          ∙ ap (λ (x : ℕ). Stopped bad (record { index = place .index; offset = x })) (sym (f .1))
 
   -- accepted exactly if every counted element is good
-  pub accepted-exactly : firstBad k b ≡ Done ↔ ((j : ℕ) → j < countOf b → judged k b (offsetAt b j) ≡ Good (offsetAt b (j + 1)))
+  pub accepted-exactly : firstBad k b ≡ Done ↔ AllGood k b
   accepted-exactly = (there, back)
     where
-      back : ((j : ℕ) → j < countOf b → judged k b (offsetAt b j) ≡ Good (offsetAt b (j + 1))) → firstBad k b ≡ Done
+      back : AllGood k b → firstBad k b ≡ Done
       back h = reach (countOf b) (omega arith) h ∙ walk-end (judged k b) (countOf b) (countOf b) (offsetAt b (countOf b)) (omega arith)
 
       -- element j, if those before it are good
@@ -122,5 +123,5 @@ module _ (k : Context) (b : List ℕ) where
               let q : j ≡ i = omega arith in
               subst (λ (x : ℕ). judged k b (offsetAt b x) ≡ Good (offsetAt b (x + 1))) q (here d j (omega arith) h (judged k b (offsetAt b j)) refl)
 
-      there : firstBad k b ≡ Done → (j : ℕ) → j < countOf b → judged k b (offsetAt b j) ≡ Good (offsetAt b (j + 1))
+      there : firstBad k b ≡ Done → AllGood k b
       there d j l = upTo d (countOf b) (omega arith) j l

@@ -1,3 +1,4 @@
 pub mod Walk
+pub mod First
 pub mod Message
 pub mod Private

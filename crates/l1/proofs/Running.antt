@@ -32,11 +32,11 @@ use Rattle.exits.proofs.Written.{valued-append, length-valued}
 use Rattle.exits.proofs.Rows.{length-output, output-short, returned-few}
 use Rattle.admission.specs.declared.Admission.{Admission}
 use Rattle.admission.specs.declared.Admission.the-variants.{Admitted, Refused}
-use Rattle.admission.specs.Refusals.{Outcome, refusal, refuse, decide, judgement}
+use Rattle.admission.specs.Refusals.{Outcome, refusal, refuse, decide, judgement, Passed}
 use Rattle.admission.specs.Target.{baseOf}
 use Rattle.state.specs.State.{contextOf, isStopped, faultOf}
 use Rattle.run.specs.Run.{inputSize, exitTests, spotTests, inputOf, contentTests, cachedTests, cachedGood, ranStore, ran, runVcpu}
-use Rattle.admission.proofs.Judging.{begin-admitted, all-refused, all-admitted, Passed, judged-passed}
+use Rattle.admission.proofs.Judging.{begin-admitted, all-refused, all-admitted, judged-passed}
 use Rattle.run.proofs.Runs.{Spotted, spotted}
 use Rattle.marks.specs.Marks.{Cache, valid, changed, isInput, markGood, goodCache}
 use Rattle.l1.specs.Cache.{chosen, pending, refreshed, Ran, ranWith, runCache}

@@ -28,8 +28,8 @@ use Rattle.exits.specs.Exits.{elementOf}
 use Rattle.store.proofs.Search.{both, no-bool}
 use Rattle.admission.specs.declared.Admission.{Admission}
 use Rattle.admission.specs.declared.Admission.the-variants.{Admitted, Refused}
-use Rattle.admission.specs.Refusals.{success, refusal, judgement}
-use Rattle.admission.proofs.Judging.{Passed, judged-passed, all-refused, all-admitted}
+use Rattle.admission.specs.Refusals.{success, refusal, judgement, Passed}
+use Rattle.admission.proofs.Judging.{judged-passed, all-refused, all-admitted}
 use Rattle.marks.specs.Marks.{Cache, withMark, allowed, isInput, isReadable, isSpecial, goodCache}
 use Rattle.l1.specs.Cache.{first, Wrote, change, writeCache, keep}
 use Rattle.l1.specs.Private.{elementTests, elementGood}

@@ -49,13 +49,12 @@ use Rattle.store.proofs.Kept.{words-are, drop-less, deleted-else, deleted-other
 use Rattle.transfer.specs.Transfer.{valueAt, putFrom, putAs, applied, readFrom, fillAs, filled}
 use Rattle.exits.specs.Exits.{exits, rowOf, returned, elementOf, valued, outputOf}
 use Rattle.exits.proofs.Written.{allFit, rowFits, rowsFit, exits-fit, fits-row}
-use Rattle.admission.specs.Refusals.{Outcome, success, accept, refuse, decide, hasBit0}
+use Rattle.admission.specs.Refusals.{Outcome, success, accept, refuse, decide, hasBit0, Passed}
 use Rattle.admission.specs.Target.{baseOf}
 use Rattle.state.specs.State.{contextOf, getUse, getState, setUse, setState}
 use Rattle.run.specs.Run.{inputSize, outputSize, inputOf, runTests, ranStore, ran, runVcpu}
 use Rattle.guests.specs.Guests.{createGuest, createVcpu, deleteGuest}
 use Rattle.l0.specs.Calls.{getCapabilities, offsetOf, guestClock, Call, GetCapabilities, SetCapabilities, CreateGuest, CreateVcpu, GetState, SetState, RunVcpu, DeleteGuest, GuestClock, outcome}
-use Rattle.admission.proofs.Judging.{Passed}
 use Rattle.promises.specs.Apart.{Elsewhere}
 use Rattle.promises.proofs.Kept.{decided, applied-header, base-values, well-formed-kept}
 use Rattle.promises.proofs.Runs.{input-walked, effect-walked}

@@ -1,5 +1,4 @@
--- THEOREMS of the written rules: `refused-unchanged`, `well-formed-kept`, and that create takes the lowest free id or slot and finds
--- again what delete freed. Assumes nothing.
+-- THEOREMS of the written rules: `refused-unchanged`, `fresh-unchanged`, `well-formed-kept`, `fresh-history`. Assumes nothing.
 use mathlib.Core.Path.{_≡_, refl, ap₂, _∙_}
 use mathlib.Core.Bool.{Bool, true, false, not, _&&_, cond}
 use mathlib.Core.List.{List, [], _∷_}
@@ -25,13 +24,14 @@ use Rattle.elements.specs.Table.{kindOf}
 use Rattle.gsb.specs.Walk.{countOf, idAt, offsetAt}
 use Rattle.transfer.specs.Transfer.{valueAt, putFrom, putAs, applied}
 use Rattle.transfer.proofs.Moving.{length-applied}
-use Rattle.admission.specs.Refusals.{Outcome, accept, refuse, decide, hasBit0}
+use Rattle.admission.specs.Refusals.{Outcome, accept, refuse, decide, hasBit0, Passed}
 use Rattle.guests.specs.Guests.{createGuest, createVcpu, deleteGuest}
 use Rattle.l0.specs.Calls.{freshStore, getCapabilities, setCapabilities, guestClock, Call, GetCapabilities, SetCapabilities, CreateGuest, CreateVcpu, GetState, SetState, RunVcpu, DeleteGuest, GuestClock, outcome, after}
 use Rattle.admission.specs.Target.{baseOf}
 use Rattle.state.specs.State.{getState, setState}
 use Rattle.run.specs.Run.{inputOf, runVcpu, ran, ranStore}
-use Rattle.admission.proofs.Judging.{Passed, each-way}
+use Rattle.admission.proofs.Judging.{each-way}
+use Rattle.promises.specs.Promised.{Unchanged, lent}
 
 -- P of a call, from each refusal and from what it does where no test holds
 pub decided : (P : Outcome → Type 0) (s b : List ℕ) (tests : List (Bool × Fault)) (o : Outcome) → ((f : Fault) → P (refuse s b f)) → (Passed tests → P o) → P (decide s b tests o)
@@ -39,28 +39,12 @@ unfolding decide
 decided P s b tests o r g = each-way P (refuse s b) tests o r g
 
 -- ---- a refusal changes nothing
-pub record Unchanged (s b : List ℕ) (o : Outcome) : Type 0 where
-  pub store : (o .answer .fault ≡ None → ⊥) → o .store ≡ s
-  pub buffer : (o .answer .fault ≡ None → ⊥) → o .buffer ≡ b
-
 kept : (s b : List ℕ) (f : Fault) → Unchanged s b (refuse s b f)
 kept s b f = record { store = λ n. refl; buffer = λ n. refl }
 
 -- an accepted call is none
 done : (s b : List ℕ) (o : Outcome) → o .answer .fault ≡ None → Unchanged s b o
 done s b o e = record { store = λ n. absurd (n e); buffer = λ n. absurd (n e) }
-
--- the buffer that a call is lent to write
-abbrev lent : Call → List ℕ
-lent (GetCapabilities flags) = []
-lent (SetCapabilities flags bitmap) = []
-lent (CreateGuest flags token) = []
-lent (CreateVcpu flags guest vcpu) = []
-lent (GetState flags guest vcpu buffer) = buffer
-lent (SetState flags guest vcpu buffer) = []
-lent (RunVcpu flags guest vcpu input output effect exit) = output
-lent (DeleteGuest flags guest) = []
-lent (GuestClock guest timebase) = []
 
 pub refused-unchanged : (l : Layout) (s : List ℕ) (c : Call) → Unchanged s (lent c) (outcome l s c)
 unfolding outcome getCapabilities setCapabilities createGuest createVcpu getState setState runVcpu ran deleteGuest guestClock

@@ -1,4 +1,5 @@
 pub mod Kept
+pub mod Told
 pub mod Lowest
 pub mod States
 pub mod ReadBack

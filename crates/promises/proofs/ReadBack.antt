@@ -34,10 +34,9 @@ use Rattle.store.specs.Header.{header, slotOf}
 use Rattle.store.proofs.Frame.{header-values}
 use Rattle.transfer.specs.Transfer.{valueAt, putFrom, putAs, applied, readFrom, fillAs, filled, AllReady}
 use Rattle.transfer.proofs.Moving.{moves-fits, fits-stored}
-use Rattle.admission.specs.Refusals.{Outcome, accept, bit0, hasBit0}
+use Rattle.admission.specs.Refusals.{Outcome, accept, bit0, hasBit0, Passed}
 use Rattle.admission.specs.Target.{targetTests, baseOf}
 use Rattle.state.specs.State.{contextOf, isStopped, faultOf, bufferTests, setUse, setState, getUse, fillWith, getState}
-use Rattle.admission.proofs.Judging.{Passed}
 use Rattle.promises.proofs.Kept.{base-values}
 use Rattle.promises.proofs.Lowest.{Real, accepted, no-store, no-flag, no-guest, no-vcpu}
 use Rattle.promises.proofs.States.{walked, all-ready, set-room}

@@ -1,40 +1,52 @@
--- THEOREMS of run vCPU: `run-refused-exactly`, `effect-refused-exactly`, and that a run changes only what its input and its effect
--- name, and the first bytes of the output. Assumes nothing.
-use mathlib.Core.Path.{_≡_, refl, sym, ap, ap₂, _∙_}
-use mathlib.Core.Logic.{_↔_}
+-- THEOREMS of run vCPU: what is told past the earlier checks (`run-refused-exactly`, `run-accepted-exactly`,
+-- `effect-refused-exactly`, `effect-length-exactly`), and that a run changes only what its input and its effect name, and the first bytes of the output. Assumes nothing.
+use mathlib.Core.Path.{_≡_, refl, sym, ap, ap₂, _∙_, subst}
+use mathlib.Core.Logic.{_↔_, _≢_}
 use mathlib.Core.Bool.{Bool, true, false, not, cond}
 use mathlib.Core.List.{List}
-use Prim.Native.Nat.{ℕ, _+_, _≤_}
+use Prim.Native.Nat.{ℕ, zero, suc, _+_, _≤_}
 use native.Mathlib.Omega.{arith}
 use lib.ListN.{length, getD}
 use Rattle.octets.specs.Bytes.{bytesAt}
 use Rattle.octets.proofs.Bytes.{Clear, left, getD-put-other}
-use Rattle.answer.specs.declared.Answer.{Answer}
 use Rattle.answer.specs.declared.Bad.{Bad}
 use Rattle.answer.specs.declared.Place.{Place}
+use Rattle.answer.specs.declared.Call.{Call as Name}
 use Rattle.answer.specs.declared.Fault.{Fault}
-use Rattle.answer.specs.declared.Fault.the-variants.{None, Element, Exit, Effect}
+use Rattle.answer.specs.declared.Fault.the-variants.{Exit, Effect}
+use Rattle.answer.specs.declared.Registers.{Registers}
+use Rattle.answer.specs.Answer.{badNumber, three}
 use Rattle.answer.specs.Refusals.{firstOf}
 use Rattle.rules.specs.declared.Usage.the-variants.{RunInput, Effect as InEffect}
 use Rattle.gsb.specs.declared.Walked.{Walked}
 use Rattle.gsb.specs.declared.Walked.the-variants.{Done, Stopped}
-use Rattle.gsb.specs.Walk.{countOf, badLength, firstBad}
-use Rattle.gsb.proofs.First.{FirstFrom, refused-exactly}
+use Rattle.gsb.specs.Walk.{countOf, badLength, offsetAt, firstBad}
+use Rattle.gsb.specs.First.{FirstBadAt, AllGood}
+use Rattle.gsb.proofs.First.{accepted-exactly}
 use Rattle.store.specs.declared.Layout.{Layout}
 use Rattle.store.specs.Layout.{Sound, slotBytes}
 use Rattle.transfer.specs.Transfer.{applied}
 use Rattle.transfer.proofs.Moving.{length-applied}
-use Rattle.transfer.proofs.Named.{Named, applied-frame, beside}
+use Rattle.transfer.specs.Named.{Named}
+use Rattle.transfer.proofs.Named.{applied-frame, beside}
 use Rattle.exits.specs.Exits.{known, returned, rowBytes, outputOf}
 use Rattle.exits.proofs.Rows.{length-output}
-use Rattle.admission.specs.Refusals.{Outcome, refusal, refuse, decide}
+use Rattle.admission.specs.Refusals.{Outcome, refuse, decide, Passed}
 use Rattle.admission.specs.Target.{baseOf}
 use Rattle.state.specs.State.{contextOf, isStopped, faultOf}
-use Rattle.run.specs.Run.{effectFault, exitTests, spotTests, inputOf, contentTests, runTests, ranStore, ran, runVcpu}
-use Rattle.admission.proofs.Judging.{Passed}
+use Rattle.run.specs.Run.{effectFault, spotTests, inputOf, contentTests, runTests, ranStore, ran, runVcpu}
 use Rattle.run.proofs.Runs.{stopped-not, spotted}
+use Rattle.l0.specs.Calls.{Call, RunVcpu, outcome}
+use Rattle.promises.specs.History.{registers}
 use Rattle.promises.proofs.Kept.{decided}
 use Rattle.promises.proofs.States.{skip}
+use Rattle.promises.proofs.Told.{number-some, number-below, tells, toldBy, elementTold, first-told, good-told, element-told}
+
+-- the first element lies behind the count
+offset-from : (b : List ℕ) (i : ℕ) → 4 ≤ offsetAt b i
+unfolding offsetAt
+offset-from b zero = omega arith
+offset-from b (suc i) = omega (arith, offset-from b i)
 
 module _ (l : Layout) (s : List ℕ) (flags guest vcpu : ℕ) (input output effect : List ℕ) (exit : ℕ) where
   abbrev base : ℕ
@@ -53,76 +65,120 @@ module _ (l : Layout) (s : List ℕ) (flags guest vcpu : ℕ) (input output effe
   abbrev spots : List (Bool × Fault)
   spots = spotTests l s flags guest vcpu 0 (length input) (length output)
 
-  -- ---- past the tests 1 to 12
+  abbrev call : Call
+  call = RunVcpu flags guest vcpu input output effect exit
+
+  -- ---- demand 2: "Past the earlier checks a buffer is refused for an element exactly if it holds a bad one, and the place told is the
+  -- first." 01: "the byte offset of the element's first byte in a run input"; 14 has the "byte offset of its first bad element, 0 if its
+  -- length is bad".
+  abbrev InputGood : Type 0
+  InputGood = AllGood (contextOf l s RunInput) given
+
+  abbrev EffectGood : Type 0
+  EffectGood = AllGood (contextOf l s InEffect) effect
+
+  -- what is told of an effect, v being what its walk finds, and from 13 on
+  abbrev effectShown : Bad → Place → Registers
+  effectShown bad place = three 14 (place .offset) 0
+
+  abbrev effectTold : Walked → Registers
+  effectTold v = toldBy effectShown (three 0 exit 0) v
+
+  abbrev later : Bool → Bool → Walked → Registers
+  later k long v = cond (not k) (three 13 0 0) (cond long (three 14 0 0) (effectTold v))
+
+  abbrev found : Walked
+  found = firstBad (contextOf l s InEffect) effect
+
+  abbrev laterTold : Registers
+  laterTold = later (known exit) (badLength effect) found
+
+  -- past 1 to 12
   module _ (p : Passed spots) where
     past : after ≡ firstOf (refuse s output) (contentTests l s given effect exit) done
     unfolding runVcpu decide
     past = skip (refuse s output) spots (contentTests l s given effect exit) done p
 
-    rest : Outcome
-    rest = firstOf (refuse s output) (exitTests l s effect exit) done
-
-    -- no later answer is one for an element of the input
-    rest-other : (bad : Bad) (place : Place) → rest .answer ≡ refusal (Element bad place) → ⊥
-    unfolding rest ran
-    rest-other bad place e = go (known exit) (badLength effect) (firstBad (contextOf l s InEffect) effect) e
+    -- what is told is what the walk of the input finds, then 13, then what the walk of the effect finds
+    run-told : registers l s call ≡ toldBy (elementTold Name.RunVcpu) laterTold (firstBad (contextOf l s RunInput) given)
+    unfolding registers outcome ran
+    run-told = ap (tells Name.RunVcpu) past ∙ go (firstBad (contextOf l s RunInput) given) (known exit) (badLength effect) found
       where
-        go : (a b : Bool) (w : Walked) → cond (not a) (refuse s output Exit) (cond b (refuse s output (Effect (record { index = 0; offset = 0 }))) (cond (isStopped w) (refuse s output (effectFault w)) done)) .answer
-            ≡ refusal (Element bad place) → ⊥
-        go false b w q = let f : Exit ≡ Element bad place = ap (λ (y : Answer). y .fault) q in let z : _≡_ {A = ℕ} 0 1 = cc in omega arith
-        go true true w q = let f : Effect (record { index = 0; offset = 0 }) ≡ Element bad place = ap (λ (y : Answer). y .fault) q in let z : _≡_ {A = ℕ} 0 1 = cc in omega arith
-        go true false Done q = let f : None ≡ Element bad place = ap (λ (y : Answer). y .fault) q in let z : _≡_ {A = ℕ} 0 1 = cc in omega arith
-        go true false (Stopped b′ p′) q = let f : Effect p′ ≡ Element bad place = ap (λ (y : Answer). y .fault) q in let z : _≡_ {A = ℕ} 0 1 = cc in omega arith
+        go : (w : Walked) (k long : Bool) (v : Walked)
+            → tells Name.RunVcpu (cond (isStopped w) (refuse s output (faultOf w)) (cond (not k) (refuse s output Exit) (cond long (refuse s output (Effect (record { index = 0; offset = 0 }))) (cond (isStopped v) (refuse s output (effectFault v)) done))))
+            ≡ toldBy (elementTold Name.RunVcpu) (later k long v) w
+        go (Stopped bad place) k long v = refl
+        go Done false long v = refl
+        go Done true true v = refl
+        go Done true false (Stopped bad place) = refl
+        go Done true false Done = refl
 
-    pub run-refused-exactly : (bad : Bad) (place : Place) → (after .answer ≡ refusal (Element bad place)) ↔ FirstFrom (contextOf l s RunInput) given 0 (countOf given) bad place
-    unfolding rest
-    run-refused-exactly bad place = (there, back)
+    pub run-refused-exactly : (bad : Bad) (at : ℕ) → (registers l s call ≡ three (badNumber bad) at 0) ↔ ((i : ℕ) × FirstBadAt (contextOf l s RunInput) given i bad × (offsetAt given i ≡ at))
+    run-refused-exactly bad at =
+        subst (λ (r : Registers). (r ≡ three (badNumber bad) at 0) ↔ ((i : ℕ) × FirstBadAt (contextOf l s RunInput) given i bad × (offsetAt given i ≡ at))) (sym run-told)
+        (element-told Name.RunVcpu laterTold (λ b. other b (known exit) (badLength effect) found) (contextOf l s RunInput) given bad at)
       where
-        walk : (w : Walked) → cond (isStopped w) (refuse s output (faultOf w)) rest .answer ≡ refusal (Element bad place) → w ≡ Stopped bad place
-        walk Done q = absurd (rest-other bad place q)
-        walk (Stopped bad′ place′) q =
-            let f : Element bad′ place′ ≡ Element bad place = ap (λ (y : Answer). y .fault) q in
-            let i : bad′ ≡ bad = cc in
-            let j : place′ ≡ place = cc in
-            ap₂ Stopped i j
+        -- 0, 13 and 14 are not 6, 7 or 8
+        other : (b : Bad) (k long : Bool) (v : Walked) → later k long v .r3 ≢ badNumber b
+        other b false long v e = number-below b (omega arith)
+        other b true true v e = number-below b (omega arith)
+        other b true false (Stopped bad place) e = number-below b (omega arith)
+        other b true false Done e = number-some b e
 
-        there : after .answer ≡ refusal (Element bad place) → FirstFrom (contextOf l s RunInput) given 0 (countOf given) bad place
-        there q = refused-exactly (contextOf l s RunInput) given bad place .0 (walk (firstBad (contextOf l s RunInput) given) (sym (ap (λ (y : Outcome). y .answer) past) ∙ q))
+    pub run-accepted-exactly : (registers l s call .r3 ≡ 0) ↔ (InputGood × (known exit ≡ true) × (badLength effect ≡ false) × EffectGood)
+    run-accepted-exactly = (there, back)
+      where
+        input-good : (toldBy (elementTold Name.RunVcpu) laterTold (firstBad (contextOf l s RunInput) given) .r3 ≡ 0) ↔ (InputGood × (laterTold .r3 ≡ 0))
+        input-good = good-told (elementTold Name.RunVcpu) laterTold (contextOf l s RunInput) given (λ bad place q. number-some bad (sym q))
 
-        back : FirstFrom (contextOf l s RunInput) given 0 (countOf given) bad place → after .answer ≡ refusal (Element bad place)
-        back f =
-            ap (λ (y : Outcome). y .answer) past
-            ∙ ap (λ (w : Walked). cond (isStopped w) (refuse s output (faultOf w)) rest .answer) (refused-exactly (contextOf l s RunInput) given bad place .1 f)
+        effect-good : (effectTold found .r3 ≡ 0) ↔ (EffectGood × (_≡_ {A = ℕ} 0 0))
+        effect-good = good-told effectShown (three 0 exit 0) (contextOf l s InEffect) effect (λ bad place q. omega arith)
 
-    -- past 13 too, and an effect of a good length
-    module _ (d : firstBad (contextOf l s RunInput) given ≡ Done) (k : known exit ≡ true) (g : badLength effect ≡ false) where
-      judged-effect : after .answer ≡ cond (isStopped (firstBad (contextOf l s InEffect) effect)) (refuse s output (effectFault (firstBad (contextOf l s InEffect) effect))) done .answer
-      judged-effect =
-          ap (λ (y : Outcome). y .answer) past
-          ∙ ap (λ (w : Walked). cond (isStopped w) (refuse s output (faultOf w)) (firstOf (refuse s output) (exitTests l s effect exit) done) .answer) d
-          ∙ ap₂ (λ (a b : Bool). cond (not a) (refuse s output Exit) (cond b (refuse s output (Effect (record { index = 0; offset = 0 })))
-          (cond (isStopped (firstBad (contextOf l s InEffect) effect)) (refuse s output (effectFault (firstBad (contextOf l s InEffect) effect))) done)) .answer) k g
+        parts : (k long : Bool) → later k long found .r3 ≡ 0 → (k ≡ true) × (long ≡ false) × (effectTold found .r3 ≡ 0)
+        parts false long e = absurd (omega arith)
+        parts true true e = absurd (omega arith)
+        parts true false e = (refl, refl, e)
 
-      pub effect-refused-exactly : (place : Place) → (after .answer ≡ refusal (Effect place)) ↔ ((bad : Bad) × FirstFrom (contextOf l s InEffect) effect 0 (countOf effect) bad place)
-      unfolding ran
-      effect-refused-exactly place = (there, back)
+        there : registers l s call .r3 ≡ 0 → InputGood × (known exit ≡ true) × (badLength effect ≡ false) × EffectGood
+        there e =
+            let i = input-good .0 (sym (ap (λ (r : Registers). r .r3) run-told) ∙ e) in
+            let x = parts (known exit) (badLength effect) (i .1) in
+            (i .0, x .0, x .1, effect-good .0 (x .2) .0)
+
+        back : InputGood × (known exit ≡ true) × (badLength effect ≡ false) × EffectGood → registers l s call .r3 ≡ 0
+        back f = ap (λ (r : Registers). r .r3) run-told ∙ input-good .1 (f .0, ap₂ (λ (k long : Bool). later k long found .r3) (f .1) (f .2) ∙ effect-good .1 (f .3, refl))
+
+    -- past 13 too
+    module _ (good : InputGood) (k : known exit ≡ true) where
+      effect-told : registers l s call ≡ cond (badLength effect) (three 14 0 0) (effectTold found)
+      effect-told =
+          run-told ∙ ap (toldBy (elementTold Name.RunVcpu) laterTold) (accepted-exactly (contextOf l s RunInput) given .1 good)
+          ∙ ap (λ (t : Bool). later t (badLength effect) found) k
+
+      -- an effect of a good length
+      module _ (g : badLength effect ≡ false) where
+        pub effect-refused-exactly : (at : ℕ) → (registers l s call ≡ three 14 at 0) ↔ ((i : ℕ) × (bad : Bad) × FirstBadAt (contextOf l s InEffect) effect i bad × (offsetAt effect i ≡ at))
+        effect-refused-exactly at = (there, back)
+          where
+            walk-told : registers l s call ≡ effectTold found
+            walk-told = effect-told ∙ ap (λ (t : Bool). cond t (three 14 0 0) (effectTold found)) g
+
+            first : (effectTold found ≡ three 14 at 0) ↔ ((i : ℕ) × (bad : Bad) × FirstBadAt (contextOf l s InEffect) effect i bad × (three 14 (offsetAt effect i) 0 ≡ three 14 at 0))
+            first = first-told effectShown (three 0 exit 0) (contextOf l s InEffect) effect (three 14 at 0) (λ e. let z : _≡_ {A = ℕ} 0 14 = ap (λ (r : Registers). r .r3) e in omega arith)
+
+            there : registers l s call ≡ three 14 at 0 → (i : ℕ) × (bad : Bad) × FirstBadAt (contextOf l s InEffect) effect i bad × (offsetAt effect i ≡ at)
+            there e = let f = first .0 (sym walk-told ∙ e) in (f .0, f .1, f .2, ap (λ (r : Registers). r .r4) (f .3))
+
+            back : ((i : ℕ) × (bad : Bad) × FirstBadAt (contextOf l s InEffect) effect i bad × (offsetAt effect i ≡ at)) → registers l s call ≡ three 14 at 0
+            back f = walk-told ∙ first .1 (f .0, f .1, f .2, ap (λ (y : ℕ). three 14 y 0) (f .3))
+
+      -- no element lies at offset 0, so that 14 with 0 is told of a bad length alone
+      pub effect-length-exactly : (registers l s call ≡ three 14 0 0) ↔ (badLength effect ≡ true)
+      effect-length-exactly = (go (badLength effect) refl, λ e. effect-told ∙ ap (λ (t : Bool). cond t (three 14 0 0) (effectTold found)) e)
         where
-          walk : (w : Walked) → cond (isStopped w) (refuse s output (effectFault w)) done .answer ≡ refusal (Effect place) → (bad : Bad) × (w ≡ Stopped bad place)
-          walk Done q = let f : None ≡ Effect place = ap (λ (y : Answer). y .fault) q in let z : _≡_ {A = ℕ} 0 1 = cc in absurd (omega arith)
-          walk (Stopped bad place′) q =
-              let f : Effect place′ ≡ Effect place = ap (λ (y : Answer). y .fault) q in
-              let j : place′ ≡ place = cc in
-              (bad, ap (Stopped bad) j)
-
-          there : after .answer ≡ refusal (Effect place) → (bad : Bad) × FirstFrom (contextOf l s InEffect) effect 0 (countOf effect) bad place
-          there q =
-              let w = walk (firstBad (contextOf l s InEffect) effect) (sym judged-effect ∙ q) in
-              (w .0, refused-exactly (contextOf l s InEffect) effect (w .0) place .0 (w .1))
-
-          back : (bad : Bad) × FirstFrom (contextOf l s InEffect) effect 0 (countOf effect) bad place → after .answer ≡ refusal (Effect place)
-          back f =
-              judged-effect
-              ∙ ap (λ (w : Walked). cond (isStopped w) (refuse s output (effectFault w)) done .answer) (refused-exactly (contextOf l s InEffect) effect (f .0) place .1 (f .1))
+          go : (t : Bool) → badLength effect ≡ t → registers l s call ≡ three 14 0 0 → badLength effect ≡ true
+          go true g e = g
+          go false g e = let f = effect-refused-exactly g 0 .0 e in absurd (omega (arith, f .3, offset-from effect (f .0)))
 
   -- ---- only what is named changes
   abbrev tests : List (Bool × Fault)

@@ -1,6 +1,6 @@
--- THEOREMS of get and set state: `refused-exactly`, `only-named`, and that setting one guest or vCPU leaves the others' values.
--- Assumes nothing.
-use mathlib.Core.Path.{_≡_, refl, sym, ap, ap₂, _∙_, subst}
+-- THEOREMS of get and set state: what is told past the earlier checks (`set-refused-exactly`, `set-accepted-exactly`, and of get), that only
+-- what is named changes, and that setting one guest or vCPU leaves the others' values. Assumes nothing.
+use mathlib.Core.Path.{_≡_, refl, sym, ap, _∙_, subst}
 use mathlib.Core.Logic.{_↔_, _≢_}
 use mathlib.Core.Bool.{Bool, true, false, not, _&&_, cond}
 use mathlib.Core.List.{List, [], _∷_, _++_}
@@ -14,9 +14,10 @@ use Rattle.octets.specs.Bytes.{bytesAt}
 use Rattle.octets.proofs.Bytes.{Clear, left, right}
 use Rattle.answer.specs.declared.Answer.{Answer}
 use Rattle.answer.specs.declared.Bad.{Bad}
-use Rattle.answer.specs.declared.Place.{Place}
+use Rattle.answer.specs.declared.Call.{Call as Name}
+use Rattle.answer.specs.Answer.{badNumber, three, told}
 use Rattle.answer.specs.declared.Fault.{Fault}
-use Rattle.answer.specs.declared.Fault.the-variants.{None, Element}
+use Rattle.answer.specs.declared.Fault.the-variants.{Length}
 use Rattle.answer.specs.Refusals.{firstOf}
 use Rattle.rules.specs.declared.Usage.{Usage}
 use Rattle.rules.specs.declared.Usage.the-variants.{GuestGet, GuestSet, ThreadGet, ThreadSet}
@@ -25,7 +26,7 @@ use Rattle.rules.proofs.Rules.{scopeFor}
 use Rattle.gsb.specs.declared.Walked.{Walked}
 use Rattle.gsb.specs.declared.Walked.the-variants.{Done, Stopped}
 use Rattle.gsb.specs.Walk.{countOf, badLength, firstBad}
-use Rattle.gsb.proofs.First.{FirstFrom, refused-exactly}
+use Rattle.gsb.specs.First.{FirstBadAt, AllGood}
 use Rattle.gsb.proofs.Walks.{long-enough}
 use Rattle.store.specs.declared.Layout.{Layout}
 use Rattle.store.specs.Layout.{Sound, guestBytes, slotBytes, guestAt, slotAt}
@@ -35,12 +36,15 @@ use Rattle.store.proofs.Frame.{formed}
 use Rattle.store.proofs.Tests.{live-parts}
 use Rattle.transfer.specs.Transfer.{applied, AllReady}
 use Rattle.transfer.proofs.Accepted.{ready-all}
-use Rattle.transfer.proofs.Named.{Named, ValueByte, applied-frame, filled-frame, beside}
-use Rattle.admission.specs.Refusals.{Outcome, success, refusal, accept, refuse, decide, bit0, hasBit0}
+use Rattle.transfer.specs.Named.{Named, ValueByte}
+use Rattle.transfer.proofs.Named.{applied-frame, filled-frame, beside}
+use Rattle.admission.specs.Refusals.{Outcome, success, accept, refuse, decide, bit0, hasBit0, Passed}
 use Rattle.admission.specs.Target.{targetTests, baseOf}
-use Rattle.state.specs.State.{contextOf, isStopped, faultOf, bufferTests, setUse, setState, getUse, fillWith, getState}
-use Rattle.admission.proofs.Judging.{Passed}
+use Rattle.state.specs.State.{contextOf, isStopped, faultOf, badElement, bufferTests, setUse, setState, getUse, fillWith, getState}
+use Rattle.l0.specs.Calls.{GetState, SetState, outcome}
+use Rattle.promises.specs.History.{registers}
 use Rattle.promises.proofs.Kept.{decided}
+use Rattle.promises.proofs.Told.{tells, toldBy, elementTold, index-told, zero-told}
 
 -- tests that failed may be left out
 pub skip : {B : Type 0} (turn : Fault → B) (xs ys : List (Bool × Fault)) (o : B) → Passed xs → firstOf turn (xs ++ ys) o ≡ firstOf turn ys o
@@ -52,48 +56,40 @@ not-stopped Done e = refl
 not-stopped (Stopped bad place) e = let z : _≡_ {A = ℕ} 0 1 = cc in absurd (omega arith)
 
 module _ (l : Layout) (s : List ℕ) (flags guest vcpu : ℕ) (b : List ℕ) where
-  -- ---- refused for an element exactly if it holds a bad one; the place is the first
-  module _ (p : Passed (targetTests l s bit0 flags (hasBit0 flags) guest vcpu)) (g : badLength b ≡ false) (bad : Bad) (place : Place) where
-    -- past the earlier tests, a call is its walk
-    judged-only : (usage : Usage) (turn : Fault → Outcome) (o : Outcome)
-        → firstOf turn (targetTests l s bit0 flags (hasBit0 flags) guest vcpu ++ bufferTests l s usage b) o
-        ≡ cond (isStopped (firstBad (contextOf l s usage) b)) (turn (faultOf (firstBad (contextOf l s usage) b))) o
-    judged-only usage turn o = skip turn (targetTests l s bit0 flags (hasBit0 flags) guest vcpu) (bufferTests l s usage b) o p ∙ simp g
-
-    -- of a refusal that keeps the fault, and an outcome that is accepted
-    exactly : (usage : Usage) (x : Outcome) (turn : Fault → Outcome) (o : Outcome) → ((f : Fault) → turn f .answer ≡ refusal f) → o .answer ≡ success 0
-        → x ≡ cond (isStopped (firstBad (contextOf l s usage) b)) (turn (faultOf (firstBad (contextOf l s usage) b))) o
-        → (x .answer ≡ refusal (Element bad place)) ↔ FirstFrom (contextOf l s usage) b 0 (countOf b) bad place
-    exactly usage x turn o r a e = (there, back)
+  -- ---- demand 2: "Past the earlier checks a buffer is refused for an element exactly if it holds a bad one, and the place told is the
+  -- first." 01: "Place is the array index from 0 in get state, set state".
+  module _ (p : Passed (targetTests l s bit0 flags (hasBit0 flags) guest vcpu)) (g : badLength b ≡ false) where
+    -- past the earlier tests, what is told is what the walk finds
+    walk-told : (c : Name) (usage : Usage) (lent : List ℕ) (o : Outcome) → o .answer ≡ success 0 → (x : Outcome) → x ≡ decide s lent (targetTests l s bit0 flags (hasBit0 flags) guest vcpu ++ bufferTests l s usage b) o
+        → tells c x ≡ toldBy (elementTold c) (three 0 0 0) (firstBad (contextOf l s usage) b)
+    unfolding decide
+    walk-told c usage lent o a x e =
+        ap (tells c) (e ∙ skip (refuse s lent) (targetTests l s bit0 flags (hasBit0 flags) guest vcpu) (bufferTests l s usage b) o p)
+        ∙ ap (λ (t : Bool). tells c (cond t (refuse s lent Length) (firstOf (refuse s lent) (badElement (contextOf l s usage) b ∷ []) o))) g ∙ go (firstBad (contextOf l s usage) b)
       where
-        walk : (w : Walked) → cond (isStopped w) (turn (faultOf w)) o .answer ≡ refusal (Element bad place) → w ≡ Stopped bad place
-        walk Done q =
-            let f : None ≡ Element bad place = ap (λ (y : Answer). y .fault) (sym a ∙ q) in
-            let z : _≡_ {A = ℕ} 0 1 = cc in absurd (omega arith)
-        walk (Stopped bad′ place′) q =
-            let h : refusal (Element bad′ place′) ≡ refusal (Element bad place) = sym (r (Element bad′ place′)) ∙ q in
-            let f : Element bad′ place′ ≡ Element bad place = ap (λ (y : Answer). y .fault) h in
-            let i : bad′ ≡ bad = cc in
-            let j : place′ ≡ place = cc in
-            ap₂ Stopped i j
+        go : (w : Walked) → tells c (cond (isStopped w) (refuse s lent (faultOf w)) o) ≡ toldBy (elementTold c) (three 0 0 0) w
+        go Done = ap (λ (y : Answer). told c (y .fault) (y .value)) a
+        go (Stopped bad place) = refl
 
-        there : x .answer ≡ refusal (Element bad place) → FirstFrom (contextOf l s usage) b 0 (countOf b) bad place
-        there q = refused-exactly (contextOf l s usage) b bad place .0 (walk (firstBad (contextOf l s usage) b) (sym (ap (λ (y : Outcome). y .answer) e) ∙ q))
+    set-told : registers l s (SetState flags guest vcpu b) ≡ toldBy (elementTold Name.SetState) (three 0 0 0) (firstBad (contextOf l s (setUse (hasBit0 flags))) b)
+    unfolding registers outcome setState
+    set-told = walk-told Name.SetState (setUse (hasBit0 flags)) [] _ refl _ refl
 
-        back : FirstFrom (contextOf l s usage) b 0 (countOf b) bad place → x .answer ≡ refusal (Element bad place)
-        back f =
-            ap (λ (y : Outcome). y .answer) e
-            ∙ ap (λ (w : Walked). cond (isStopped w) (turn (faultOf w)) o .answer) (refused-exactly (contextOf l s usage) b bad place .1 f) ∙ r (Element bad place)
+    get-told : registers l s (GetState flags guest vcpu b) ≡ toldBy (elementTold Name.GetState) (three 0 0 0) (firstBad (contextOf l s (getUse (hasBit0 flags))) b)
+    unfolding registers outcome getState
+    get-told = walk-told Name.GetState (getUse (hasBit0 flags)) b _ refl _ refl
 
-    pub set-refused-exactly : (setState l s flags guest vcpu b .answer ≡ refusal (Element bad place)) ↔ FirstFrom (contextOf l s (setUse (hasBit0 flags))) b 0 (countOf b) bad place
-    unfolding setState decide
-    set-refused-exactly =
-        exactly (setUse (hasBit0 flags)) _ (refuse s []) (accept 0 (applied (baseOf l s (hasBit0 flags) guest vcpu) b (countOf b) s)) (λ f. refl) refl (judged-only (setUse (hasBit0 flags)) (refuse s []) (accept 0 (applied (baseOf l s (hasBit0 flags) guest vcpu) b (countOf b) s)))
+    pub set-refused-exactly : (bad : Bad) (i : ℕ) → (registers l s (SetState flags guest vcpu b) ≡ three (badNumber bad) i 0) ↔ FirstBadAt (contextOf l s (setUse (hasBit0 flags))) b i bad
+    set-refused-exactly = index-told Name.SetState _ b _ set-told (λ place. refl)
 
-    pub get-refused-exactly : (getState l s flags guest vcpu b .answer ≡ refusal (Element bad place)) ↔ FirstFrom (contextOf l s (getUse (hasBit0 flags))) b 0 (countOf b) bad place
-    unfolding getState decide
-    get-refused-exactly =
-        exactly (getUse (hasBit0 flags)) _ (refuse s b) (fillWith s (baseOf l s (hasBit0 flags) guest vcpu) b) (λ f. refl) refl (judged-only (getUse (hasBit0 flags)) (refuse s b) (fillWith s (baseOf l s (hasBit0 flags) guest vcpu) b))
+    pub get-refused-exactly : (bad : Bad) (i : ℕ) → (registers l s (GetState flags guest vcpu b) ≡ three (badNumber bad) i 0) ↔ FirstBadAt (contextOf l s (getUse (hasBit0 flags))) b i bad
+    get-refused-exactly = index-told Name.GetState _ b _ get-told (λ place. refl)
+
+    pub set-accepted-exactly : (registers l s (SetState flags guest vcpu b) .r3 ≡ 0) ↔ AllGood (contextOf l s (setUse (hasBit0 flags))) b
+    set-accepted-exactly = zero-told Name.SetState _ b _ set-told
+
+    pub get-accepted-exactly : (registers l s (GetState flags guest vcpu b) .r3 ≡ 0) ↔ AllGood (contextOf l s (getUse (hasBit0 flags))) b
+    get-accepted-exactly = zero-told Name.GetState _ b _ get-told
 
   -- ---- only what is named changes
   -- a buffer that passed its tests was walked to its end

@@ -1,85 +1,77 @@
 -- THEOREMS `slots-used`, `slots-free`: the slots used are the accepted vCPU creations less those dropped by deletes, over every history
 -- from a fresh store; 16 less that are free. Assumes nothing.
-use mathlib.Core.Path.{_≡_, refl, sym, ap, _∙_}
+use mathlib.Core.Path.{_≡_, refl, sym, ap, ap₂, _∙_, subst}
 use mathlib.Core.Logic.{_≢_}
-use mathlib.Core.Bool.{Bool, true, false, not, _&&_, _||_, cond}
+use mathlib.Core.Bool.{Bool, true, false, not, _&&_, cond}
 use mathlib.Core.List.{List, [], _∷_}
 use Prim.Native.Nat.{ℕ, _+_, _-_, _*_, _≤_, _<_}
 use native.Mathlib.Omega.{arith}
 use native.Mathlib.Decide.{ℕ-discrete}
-use lib.Dec.{eqb, leb}
+use lib.Dec.{eqb}
 use lib.ListN.{length}
-use borrow.Author.Tests.{eq-eqb, ne-eqb, le-leb, lt-leb, eqb-true, eqb-false, ltb-true, ltb-false, not-false}
+use borrow.Author.Tests.{eq-eqb, ne-eqb, le-leb, lt-leb, eqb-true, ltb-false}
 use Rattle.octets.specs.Bytes.{bytesAt, zeros}
 use Rattle.octets.specs.Bits.{bit, bits}
-use Rattle.answer.specs.declared.Bad.{Bad}
-use Rattle.answer.specs.declared.Bad.the-variants.{Id, Size, Value}
-use Rattle.answer.specs.declared.Call.{Call as Name}
 use Rattle.answer.specs.declared.Fault.{Fault}
-use Rattle.answer.specs.declared.Fault.the-variants.{None, Store, Flag, Guest, Token, Capability, Vcpu, Length, Element, Room, Exists, Unregistered, Short, Exit, Effect, Cache}
-use Rattle.answer.specs.Answer.{badNumber, told}
 use Rattle.gsb.specs.Walk.{countOf}
 use Rattle.transfer.specs.Transfer.{applied}
 use Rattle.store.specs.declared.Layout.{Layout}
-use Rattle.store.specs.Layout.{Sound, small, guestAt, slotAt, guestBytes, slotBytes}
+use Rattle.store.specs.Layout.{Sound, small, guestAt, guestBytes}
 use Rattle.store.specs.Search.{tally}
-use Rattle.store.specs.Header.{header, live, word, wordOf, isUsed, guestOf, holds, lacks, freeSlot, isDead, freeGuest, usedSlots}
-use Rattle.store.specs.Store.{wellFormed, fresh, putLive, putWord, withGuest, withVcpu, withoutGuest, withoutGuests}
-use Rattle.store.proofs.Search.{no-bool, first-bounds, tally-ext, tally-more, tally-sum, tally-all}
-use Rattle.store.proofs.Tests.{live-parts}
+use Rattle.store.specs.Header.{header, word, wordOf, isUsed, guestOf, holds, lacks, freeSlot, isDead, freeGuest, usedSlots}
+use Rattle.store.specs.Store.{wellFormed, fresh, putLive, withGuest, withVcpu}
+use Rattle.store.proofs.Search.{first-bounds, tally-ext, tally-more, tally-sum, tally-all}
 use Rattle.store.proofs.Fields.{word-same, word-other, word-live}
-use Rattle.store.proofs.Frame.{header-full, header-values, header-caps, header-word, header-live, formed}
-use Rattle.store.proofs.Kept.{words-are, caps-word, guests-gone, deleted-slot, deleted-other}
+use Rattle.store.proofs.Frame.{header-full, header-values, header-caps, header-live, formed}
+use Rattle.store.proofs.Kept.{words-are, caps-word}
 use Rattle.store.proofs.Small.{sound-small, fresh-good}
-use Rattle.admission.specs.Refusals.{Outcome, refuse, hasBit0}
+use Rattle.admission.specs.Refusals.{Outcome, refuse}
 use Rattle.admission.specs.Target.{baseOf}
 use Rattle.state.specs.State.{getState, setState}
 use Rattle.run.specs.Run.{inputOf, ranStore, ran, runVcpu}
-use Rattle.guests.specs.Guests.{createGuest, createVcpu, deleteGuest}
+use Rattle.guests.specs.Guests.{createGuest}
 use Rattle.l0.specs.Calls.{getCapabilities, setCapabilities, guestClock, Call, GetCapabilities, SetCapabilities, CreateGuest, CreateVcpu, GetState, SetState, RunVcpu, DeleteGuest, GuestClock, outcome, after}
-use Rattle.promises.specs.History.{nameOf, registers, isAccepted, creates, isDropped, drops, created, dropped, freeSlots}
-use Rattle.promises.proofs.Kept.{decided, refused-unchanged, applied-header, base-values, well-formed-kept}
-use Rattle.promises.proofs.Lowest.{accepted, no-store, no-flag, no-guest, no-vcpu, no-exists, no-room, LowestSlot, lowest-slot}
-
--- ---- an accepted call has no fault
-bad-told : (bad : Bad) → badNumber bad ≡ 0 → ⊥
-bad-told Id e = omega arith
-bad-told Size e = omega arith
-bad-told Value e = omega arith
-
-pub none-told : (c : Name) (f : Fault) (v : ℕ) → told c f v .r3 ≡ 0 → f ≡ None
-none-told c None v e = refl
-none-told c Store v e = absurd (omega arith)
-none-told c (Flag bit) v e = absurd (omega arith)
-none-told c Guest v e = absurd (omega arith)
-none-told c Token v e = absurd (omega arith)
-none-told c Capability v e = absurd (omega arith)
-none-told c Vcpu v e = absurd (omega arith)
-none-told c Length v e = absurd (omega arith)
-none-told c (Element bad place) v e = absurd (bad-told bad e)
-none-told c Room v e = absurd (omega arith)
-none-told c Exists v e = absurd (omega arith)
-none-told c (Unregistered buffer) v e = absurd (omega arith)
-none-told c (Short buffer) v e = absurd (omega arith)
-none-told c Exit v e = absurd (omega arith)
-none-told c (Effect place) v e = absurd (omega arith)
-none-told c Cache v e = absurd (omega arith)
-
-pub accepted-none : (l : Layout) (s : List ℕ) (c : Call) → isAccepted l s c ≡ true → outcome l s c .answer .fault ≡ None
-unfolding isAccepted registers
-accepted-none l s c e = none-told (nameOf c) (outcome l s c .answer .fault) (outcome l s c .answer .value) (eqb-true _ _ e)
-
-pub none-accepted : (l : Layout) (s : List ℕ) (c : Call) → isAccepted l s c ≡ false → outcome l s c .answer .fault ≡ None → ⊥
-unfolding isAccepted registers
-none-accepted l s c e q = eqb-false _ _ e (ap (λ (f : Fault). told (nameOf c) f (outcome l s c .answer .value) .r3) q)
+use Rattle.promises.specs.History.{registers, isAccepted, Count, nothing, deletes, isDropped, howMany, without, counting, counted, history, freeSlots}
+use Rattle.promises.proofs.Kept.{decided, refused-unchanged, applied-header, base-values, well-formed-kept, fresh-history}
+use Rattle.promises.proofs.Told.{zero-none, none-accepted}
+use Rattle.promises.proofs.Lowest.{VcpuMade, vcpu-made, new-word, made-header, free-slot, freed-slot, kept-slot}
 
 -- ---- a call that leaves the words of the store s as they were
 record Same (l : Layout) (s : List ℕ) (o : Outcome) : Type 0 where
   words : (a : ℕ) → word l (header l (o .store)) a ≡ word l (header l s) a
 
-same-used : (l : Layout) (s : List ℕ) (o : Outcome) → Same l s o → usedSlots l (header l (o .store)) + 0 ≡ usedSlots l (header l s) + 0
-unfolding usedSlots lacks
-same-used l s o r = ap (λ (x : ℕ). x + 0) (tally-ext (lacks l (header l (o .store)) 0) (lacks l (header l s) 0) (l .slots) (λ a k. ap (λ (w : ℕ). not (eqb w 0)) (r .words a)))
+-- ---- the words of a store are those of the vCPUs counted: as many of every kind of guest
+abbrev named : Layout → List ℕ → (ℕ → Bool) → ℕ → Bool
+named l h p a = isUsed l (word l h a) && p (guestOf l (word l h a))
+
+record Matches (l : Layout) (s : List ℕ) (vs : List (ℕ × ℕ)) : Type 0 where
+  as-many : (p : ℕ → Bool) → tally (named l (header l s) p) (l .slots) ≡ howMany (λ v. p (v .0)) vs
+
+same-matches : (l : Layout) (s : List ℕ) (vs : List (ℕ × ℕ)) (o : Outcome) → Same l s o → Matches l s vs → Matches l (o .store) vs
+same-matches l s vs o r m = record {
+  as-many = λ p. tally-ext (named l (header l (o .store)) p) (named l (header l s) p) (l .slots) (λ a k. ap (λ (w : ℕ). isUsed l w && p (guestOf l w)) (r .words a)) ∙ m .as-many p;
+}
+
+-- ---- lists of vCPUs
+-- of those left by d, as many as have p and not d
+many-left : (p d : ℕ × ℕ → Bool) (vs : List (ℕ × ℕ)) → howMany p (without d vs) ≡ howMany (λ v. not (d v) && p v) vs
+unfolding howMany without
+many-left p d [] = refl
+many-left p d (v ∷ vs) = go (d v) (many-left p d vs)
+  where
+    go : (t : Bool) → howMany p (without d vs) ≡ howMany (λ v. not (d v) && p v) vs → howMany p (cond t (without d vs) (v ∷ without d vs)) ≡ cond (not t && p v) 1 0 + howMany (λ v. not (d v) && p v) vs
+    go true ih = omega (arith, ih)
+    go false ih = ap (λ (n : ℕ). cond (p v) 1 0 + n) ih
+
+left-and-dropped : (d : ℕ × ℕ → Bool) (vs : List (ℕ × ℕ)) → howMany (λ v. true) (without d vs) + howMany d vs ≡ howMany (λ v. true) vs
+unfolding howMany without
+left-and-dropped d [] = refl
+left-and-dropped d (v ∷ vs) = go (d v) (left-and-dropped d vs)
+  where
+    go : (t : Bool) → howMany (λ v. true) (without d vs) + howMany d vs ≡ howMany (λ v. true) vs
+        → howMany (λ v. true) (cond t (without d vs) (v ∷ without d vs)) + (cond t 1 0 + howMany d vs) ≡ 1 + howMany (λ v. true) vs
+    go true ih = omega (arith, ih)
+    go false ih = omega (arith, ih)
 
 module _ (l : Layout) (so : Sound l) (s : List ℕ) (good : wellFormed l s ≡ true) where
   full : length (header l s) ≡ l .«guests_at»
@@ -134,134 +126,165 @@ module _ (l : Layout) (so : Sound l) (s : List ℕ) (good : wellFormed l s ≡ t
   unfolding guestClock
   clock-same guest timebase = decided (Same l s) s [] _ _ (kept []) (λ p. record { words = λ a. refl })
 
-  -- ---- create vCPU: one more
-  module _ (g v : ℕ) (lv : live l (header l s) g ≡ true) (hv : v < 2048) (lowest : LowestSlot l s (freeSlot l (header l s))) where
-    new : (0 < wordOf l g v) × (wordOf l g v < 4096 * l .ids)
-    unfolding wordOf
-    new = let p = live-parts l (header l s) g lv in (omega (arith, so .nameable), omega (arith, p .1, so .nameable))
-
-    made : header l (withVcpu l s (freeSlot l (header l s)) g v) ≡ putWord l (header l s) (freeSlot l (header l s)) (wordOf l g v)
-    unfolding withVcpu
-    made =
-        let j = freeSlot l (header l s) in
-        header-values l so (putWord l s j (wordOf l g v)) (slotAt l j) (zeros slotBytes) (omega (arith, so .guests-fit)) ∙ header-word l so s j (wordOf l g v) (lowest .upto)
-
-    vcpu-more : usedSlots l (header l (withVcpu l s (freeSlot l (header l s)) g v)) ≡ usedSlots l (header l s) + 1
-    unfolding usedSlots lacks
-    vcpu-more =
-        let j = freeSlot l (header l s) in
-        let w = wordOf l g v in
-        let t = header l (withVcpu l s j g v) in
-        let e : word l t j ≡ w = ap (λ (h : List ℕ). word l h j) made ∙ word-same l so (header l s) full j (lowest .upto) w (new .1) in
-        tally-more (lacks l (header l s) 0) (lacks l t 0) (l .slots) j (lowest .upto)
-        (ap not (eq-eqb _ _ (lowest .free)))
-        (ap not (ne-eqb _ _ (λ z. let y : w ≡ 0 = sym e ∙ z in omega (arith, new .0))))
-        (λ a k n. ap (λ (x : ℕ). not (eqb x 0)) (sym (ap (λ (h : List ℕ). word l h a) made ∙ word-other l so (header l s) full j (lowest .upto) w a n)))
-
-  vcpu-counted : (flags guest vcpu : ℕ) → createVcpu l s flags guest vcpu .answer .fault ≡ None
-      → usedSlots l (header l (createVcpu l s flags guest vcpu .store)) + 0 ≡ usedSlots l (header l s) + 1
-  unfolding createVcpu
-  vcpu-counted flags guest vcpu e =
-      let p = accepted s [] _ _ ((λ t. no-store), ((λ t. no-flag _), ((λ t. no-guest), ((λ t. no-vcpu), ((λ t. no-exists), ((λ t. no-room), tt)))))) e in
-      let q = p .0 .1 .1 in
-      ap (λ (o : Outcome). usedSlots l (header l (o .store)) + 0) (p .1)
-      ∙ ap (λ (x : ℕ). x + 0) (vcpu-more guest vcpu (not-false _ (q .0)) (ltb-true _ _ (not-false _ (q .1 .0))) (lowest-slot l s flags guest vcpu e))
-      ∙ omega arith
-
-  -- ---- delete: a slot is used after it, or dropped, exactly if it was used before
-  -- w is the slot's word before, x after, and t says whether delete drops it
-  used-or-dropped : (w x : ℕ) → (w ≢ 0 → l .ids * 2048 ≤ w) → (t : Bool) → (t ≡ true → x ≡ 0) → (t ≡ false → x ≡ w)
-      → cond (not (eqb x 0)) 1 0 + cond (isUsed l w && t) 1 0 ≡ cond (not (eqb w 0)) 1 0
+  -- ---- words that are zero or used
+  zero-unused : isUsed l 0 ≡ false
   unfolding isUsed
-  used-or-dropped w x used true gone stays = go (ℕ-discrete w 0)
-    where
-      go : Dec (w ≡ 0) → cond (not (eqb x 0)) 1 0 + cond (leb (l .ids * 2048) w && true) 1 0 ≡ cond (not (eqb w 0)) 1 0
-      go (yes z) = let n : w < l .ids * 2048 = omega (arith, so .nameable) in simp (eq-eqb _ _ (gone refl), eq-eqb _ _ z, lt-leb _ _ n)
-      go (no n) = simp (eq-eqb _ _ (gone refl), ne-eqb _ _ n, le-leb _ _ (used n))
-  used-or-dropped w x used false gone stays = go (leb (l .ids * 2048) w)
-    where
-      same : _≡_ {A = ℕ} (cond (not (eqb x 0)) 1 0) (cond (not (eqb w 0)) 1 0)
-      same = ap (λ (y : ℕ). cond (not (eqb y 0)) 1 0) (stays refl)
+  zero-unused = let n : 0 < l .ids * 2048 = omega (arith, so .nameable) in lt-leb _ _ n
 
-      go : (b : Bool) → cond (not (eqb x 0)) 1 0 + cond (b && false) 1 0 ≡ cond (not (eqb w 0)) 1 0
-      go true = omega (arith, same)
-      go false = omega (arith, same)
+  used : (w : ℕ) → l .ids * 2048 ≤ w → isUsed l w ≡ true
+  unfolding isUsed
+  used w k = le-leb _ _ k
 
-  used-less : (t : List ℕ) (drop : ℕ → Bool) → ((a : ℕ) → a < l .slots → drop a ≡ true → word l (header l t) a ≡ 0)
-      → ((a : ℕ) → drop a ≡ false → word l (header l t) a ≡ word l (header l s) a)
-      → usedSlots l (header l t) + tally (λ a. isUsed l (word l (header l s) a) && drop a) (l .slots) ≡ usedSlots l (header l s)
-  unfolding usedSlots lacks
-  used-less t drop gone stays =
-      let f = words-are l (header l s) (formed l s good .words) in
-      tally-sum (lacks l (header l t) 0) (λ a. isUsed l (word l (header l s) a) && drop a) (lacks l (header l s) 0) (l .slots)
-      (λ a k. used-or-dropped (word l (header l s) a) (word l (header l t) a) (λ n. f .good a k n .0) (drop a) (gone a k) (stays a))
+  unused : (h : List ℕ) (p : ℕ → Bool) (a : ℕ) → word l h a ≡ 0 → named l h p a ≡ false
+  unused h p a e = ap (λ (w : ℕ). isUsed l w && p (guestOf l w)) e ∙ ap (λ (t : Bool). t && p (guestOf l 0)) zero-unused
 
-  all-gone : (a : ℕ) → a < l .slots → word l (header l (withoutGuests l s)) a ≡ 0
-  unfolding withoutGuests
-  all-gone = guests-gone l so s good (l .guests) (omega arith) .bare
+  -- ---- create vCPU: its word in a free slot, and the others as they were
+  module _ (flags g v : ℕ) (x : VcpuMade l s flags g v) (p : ℕ → Bool) where
+    abbrev free : ℕ
+    free = freeSlot l (header l s)
 
-  delete-less : (flags guest : ℕ) → (not (hasBit0 flags) && not (live l (header l s) guest)) ≡ false
-      → usedSlots l (header l (cond (hasBit0 flags) (withoutGuests l s) (withoutGuest l s guest))) + tally (isDropped l (header l s) flags guest) (l .slots) ≡ usedSlots l (header l s)
+    abbrev made : List ℕ
+    made = header l (withVcpu l s free g v)
+
+    new-named : named l made p free ≡ p g
+    unfolding guestOf wordOf
+    new-named =
+        let small = x .small in
+        let w = wordOf l g v in
+        let e : word l made free ≡ w = ap (λ (h : List ℕ). word l h free) (made-header l so s flags g v x) ∙ word-same l so (header l s) full free (x .room) w (new-word l so s flags g v x) in
+        let guest : guestOf l w ≡ g = omega arith in
+        ap (λ (y : ℕ). isUsed l y && p (guestOf l y)) e ∙ ap₂ (λ (t : Bool) (k : ℕ). t && p k) (used w (omega arith)) guest
+
+    other-named : (a : ℕ) → a ≢ free → named l made p a ≡ named l (header l s) p a
+    other-named a n =
+        ap (λ (w : ℕ). isUsed l w && p (guestOf l w)) (ap (λ (h : List ℕ). word l h a) (made-header l so s flags g v x) ∙ word-other l so (header l s) full free (x .room) (wordOf l g v) a n)
+
+    was-free : named l (header l s) p free ≡ false
+    was-free = unused (header l s) p free (free-slot l s (x .room) .free)
+
+    vcpu-more : tally (named l made p) (l .slots) ≡ cond (p g) 1 0 + tally (named l (header l s) p) (l .slots)
+    vcpu-more = go (p g) refl
+      where
+        go : (t : Bool) → p g ≡ t → tally (named l made p) (l .slots) ≡ cond t 1 0 + tally (named l (header l s) p) (l .slots)
+        go true q =
+            let e : tally (named l made p) (l .slots) ≡ tally (named l (header l s) p) (l .slots) + 1 = tally-more (named l (header l s) p) (named l made p) (l .slots) free (x .room) was-free (new-named ∙ q) (λ a k n. sym (other-named a n)) in
+            omega (arith, e)
+        go false q =
+            let e : tally (named l made p) (l .slots) ≡ tally (named l (header l s) p) (l .slots) = tally-ext (named l made p) (named l (header l s) p) (l .slots) (λ a k. at a (ℕ-discrete a free)) in
+            omega (arith, e)
+          where
+            at : (a : ℕ) → Dec (a ≡ free) → named l made p a ≡ named l (header l s) p a
+            at a (yes z) = ap (named l made p) z ∙ new-named ∙ q ∙ sym was-free ∙ ap (named l (header l s) p) (sym z)
+            at a (no n) = other-named a n
+
+  vcpu-matches : (flags g v : ℕ) (vs : List (ℕ × ℕ)) → registers l s (CreateVcpu flags g v) .r3 ≡ 0 → Matches l s vs → Matches l (outcome l s (CreateVcpu flags g v) .store) ((g, v) ∷ vs)
+  unfolding outcome howMany
+  vcpu-matches flags g v vs e m =
+      let x = vcpu-made l s flags g v (zero-none l s (CreateVcpu flags g v) e) in
+      record {
+        as-many = λ p. ap (λ (o : Outcome). tally (named l (header l (o .store)) p) (l .slots)) (x .is) ∙ vcpu-more flags g v x p ∙ ap (λ (n : ℕ). cond (p g) 1 0 + n) (m .as-many p);
+      }
+
+  -- ---- delete: the words that it drops, and the others as they were
+  delete-matches : (flags guest : ℕ) (vs : List (ℕ × ℕ)) → registers l s (DeleteGuest flags guest) .r3 ≡ 0 → Matches l s vs
+      → Matches l (outcome l s (DeleteGuest flags guest) .store) (without (isDropped flags guest) vs)
   unfolding isDropped
-  delete-less flags guest e = go (hasBit0 flags) e
+  delete-matches flags guest vs e m = record {
+    as-many = λ p. tally-ext (named l (header l (outcome l s (DeleteGuest flags guest) .store)) p) (named l (header l s) (stays p)) (l .slots) (λ a k. at p a (word l (header l s) a) refl k (deletes flags guest (guestOf l (word l (header l s) a))) refl)
+        ∙ m .as-many (stays p) ∙ sym (many-left (λ v. p (v .0)) (isDropped flags guest) vs);
+  }
     where
-      go : (all : Bool) → (not all && not (live l (header l s) guest)) ≡ false
-          → usedSlots l (header l (cond all (withoutGuests l s) (withoutGuest l s guest))) + tally (λ a. isUsed l (word l (header l s) a) && (all || eqb (guestOf l (word l (header l s) a)) guest)) (l .slots)
-          ≡ usedSlots l (header l s)
-      go true q = used-less (withoutGuests l s) (λ a. true) (λ a k d. all-gone a k) (λ a d. absurd (no-bool (sym d)))
-      go false q =
-          let lv = not-false _ q in
-          used-less (withoutGuest l s guest) (λ a. eqb (guestOf l (word l (header l s) a)) guest)
-          (λ a k d. deleted-slot l so s good guest lv a k (eqb-true _ _ d)) (λ a d. deleted-other l so s good guest lv a (eqb-false _ _ d))
+      stays : (ℕ → Bool) → ℕ → Bool
+      stays p g = not (deletes flags guest g) && p g
 
-  delete-counted : (flags guest : ℕ) → deleteGuest l s flags guest .answer .fault ≡ None
-      → usedSlots l (header l (deleteGuest l s flags guest .store)) + tally (isDropped l (header l s) flags guest) (l .slots) ≡ usedSlots l (header l s) + 0
-  unfolding deleteGuest
-  delete-counted flags guest e =
-      let p = accepted s [] _ _ ((λ t. no-store), ((λ t. no-flag _), ((λ t. no-guest), tt))) e in
-      ap (λ (o : Outcome). usedSlots l (header l (o .store)) + tally (isDropped l (header l s) flags guest) (l .slots)) (p .1)
-      ∙ delete-less flags guest (p .0 .1 .1 .0) ∙ omega arith
+      both-false : (t : Bool) → (t && false) ≡ false
+      both-false true = refl
+      both-false false = refl
+
+      at : (p : ℕ → Bool) (a w : ℕ) → w ≡ word l (header l s) a → a < l .slots → (d : Bool) → deletes flags guest (guestOf l w) ≡ d
+          → named l (header l (outcome l s (DeleteGuest flags guest) .store)) p a ≡ (isUsed l w && (not d && p (guestOf l w)))
+      at p a w q k true d = unused (header l (outcome l s (DeleteGuest flags guest) .store)) p a (freed-slot l so s flags guest e a k (ap (λ (y : ℕ). deletes flags guest (guestOf l y)) (sym q) ∙ d)) ∙ sym (both-false (isUsed l w))
+      at p a w q k false d = ap (λ (y : ℕ). isUsed l y && p (guestOf l y)) (kept-slot l so s flags guest e a (ap (λ (y : ℕ). deletes flags guest (guestOf l y)) (sym q) ∙ d) ∙ sym q)
 
   -- ---- one call
-  taken : (c : Call) → outcome l s c .answer .fault ≡ None → usedSlots l (header l (outcome l s c .store)) + drops l (header l s) c ≡ usedSlots l (header l s) + creates c
+  call-matches : (n : Count) (c : Call) → registers l s c .r3 ≡ 0 → Matches l s (n .vcpus) → Matches l (outcome l s c .store) (counting n c .vcpus)
   unfolding outcome
-  taken (GetCapabilities flags) e = same-used l s _ (told-same flags)
-  taken (SetCapabilities flags bitmap) e = same-used l s _ (caps-same flags bitmap)
-  taken (CreateGuest flags token) e = same-used l s _ (guest-same flags token)
-  taken (CreateVcpu flags guest vcpu) e = vcpu-counted flags guest vcpu e
-  taken (GetState flags guest vcpu buffer) e = same-used l s _ (get-same flags guest vcpu buffer)
-  taken (SetState flags guest vcpu buffer) e = same-used l s _ (set-same flags guest vcpu buffer)
-  taken (RunVcpu flags guest vcpu input output effect exit) e = same-used l s _ (run-same flags guest vcpu input output effect exit)
-  taken (DeleteGuest flags guest) e = delete-counted flags guest e
-  taken (GuestClock guest timebase) e = same-used l s _ (clock-same guest timebase)
+  call-matches n (GetCapabilities flags) e = same-matches l s (n .vcpus) _ (told-same flags)
+  call-matches n (SetCapabilities flags bitmap) e = same-matches l s (n .vcpus) _ (caps-same flags bitmap)
+  call-matches n (CreateGuest flags token) e = same-matches l s (n .vcpus) _ (guest-same flags token)
+  call-matches n (CreateVcpu flags guest vcpu) e = vcpu-matches flags guest vcpu (n .vcpus) e
+  call-matches n (GetState flags guest vcpu buffer) e = same-matches l s (n .vcpus) _ (get-same flags guest vcpu buffer)
+  call-matches n (SetState flags guest vcpu buffer) e = same-matches l s (n .vcpus) _ (set-same flags guest vcpu buffer)
+  call-matches n (RunVcpu flags guest vcpu input output effect exit) e = same-matches l s (n .vcpus) _ (run-same flags guest vcpu input output effect exit)
+  call-matches n (DeleteGuest flags guest) e = delete-matches flags guest (n .vcpus) e
+  call-matches n (GuestClock guest timebase) e = same-matches l s (n .vcpus) _ (clock-same guest timebase)
 
   -- a refused one leaves the store as it was
-  pub call-counted : (c : Call) → usedSlots l (header l (outcome l s c .store)) + cond (isAccepted l s c) (drops l (header l s) c) 0 ≡ usedSlots l (header l s) + cond (isAccepted l s c) (creates c) 0
-  call-counted c = go (isAccepted l s c) refl
+  turn-matches : (n : Count) (c : Call) → Matches l s (n .vcpus) → Matches l (outcome l s c .store) (cond (isAccepted l s c) (counting n c) n .vcpus)
+  unfolding isAccepted
+  turn-matches n c m = go (isAccepted l s c) refl
     where
-      go : (t : Bool) → isAccepted l s c ≡ t → usedSlots l (header l (outcome l s c .store)) + cond t (drops l (header l s) c) 0 ≡ usedSlots l (header l s) + cond t (creates c) 0
-      go true e = taken c (accepted-none l s c e)
-      go false e = ap (λ (t : List ℕ). usedSlots l (header l t) + 0) (refused-unchanged l s c .store (none-accepted l s c e))
+      go : (t : Bool) → isAccepted l s c ≡ t → Matches l (outcome l s c .store) (cond t (counting n c) n .vcpus)
+      go true e = call-matches n c (eqb-true _ _ e) m
+      go false e = subst (λ (t : List ℕ). Matches l t (n .vcpus)) (sym (refused-unchanged l s c .store (none-accepted l s c e))) m
+
+  -- the used slots are those whose word is not zero
+  used-named : usedSlots l (header l s) ≡ tally (named l (header l s) (λ g. true)) (l .slots)
+  unfolding usedSlots lacks
+  used-named = tally-ext (lacks l (header l s) 0) (named l (header l s) (λ g. true)) (l .slots) (λ a k. at a k (ℕ-discrete (word l (header l s) a) 0))
+    where
+      at : (a : ℕ) → a < l .slots → Dec (word l (header l s) a ≡ 0) → not (eqb (word l (header l s) a) 0) ≡ named l (header l s) (λ g. true) a
+      at a k (yes z) = ap not (eq-eqb _ _ z) ∙ sym (unused (header l s) (λ g. true) a z)
+      at a k (no n) = ap not (ne-eqb _ _ n) ∙ sym (ap (λ (t : Bool). t && true) (used (word l (header l s) a) (words-are l (header l s) (formed l s good .words) .good a k n .0)))
 
 -- ---- every history
-pub history-counted : (l : Layout) → Sound l → (s : List ℕ) → wellFormed l s ≡ true → (cs : List Call)
-    → usedSlots l (header l (after l s cs)) + dropped l s cs ≡ usedSlots l (header l s) + created l s cs
-unfolding after created dropped
-history-counted l so s good [] = refl
-history-counted l so s good (c ∷ cs) =
-    let x = call-counted l so s good c in
-    let y = history-counted l so (outcome l s c .store) (well-formed-kept l so s good c) cs in
-    omega (arith, x, y)
+history-matches : (l : Layout) → Sound l → (s : List ℕ) → wellFormed l s ≡ true → (n : Count) (cs : List Call) → Matches l s (n .vcpus) → Matches l (after l s cs) (counted l s n cs .vcpus)
+unfolding after counted
+history-matches l so s good n [] m = m
+history-matches l so s good n (c ∷ cs) m =
+    history-matches l so (outcome l s c .store) (well-formed-kept l so s good c) (cond (isAccepted l s c) (counting n c) n) cs (turn-matches l so s good n c m)
+
+-- the vCPUs that are left and those that were dropped are those created
+record Even (n : Count) : Type 0 where
+  sum : howMany (λ v. true) (n .vcpus) + n .dropped ≡ n .created
+
+call-even : (n : Count) (c : Call) → Even n → Even (counting n c)
+unfolding howMany
+call-even n (GetCapabilities flags) e = e
+call-even n (SetCapabilities flags bitmap) e = e
+call-even n (CreateGuest flags token) e = e
+call-even n (CreateVcpu flags guest vcpu) e = record { sum = omega (arith, e .sum) }
+call-even n (GetState flags guest vcpu buffer) e = e
+call-even n (SetState flags guest vcpu buffer) e = e
+call-even n (RunVcpu flags guest vcpu input output effect exit) e = e
+call-even n (DeleteGuest flags guest) e = record { sum = omega (arith, e .sum, left-and-dropped (isDropped flags guest) (n .vcpus)) }
+call-even n (GuestClock guest timebase) e = e
+
+history-even : (l : Layout) (s : List ℕ) (n : Count) (cs : List Call) → Even n → Even (counted l s n cs)
+unfolding counted
+history-even l s n [] e = e
+history-even l s n (c ∷ cs) e = history-even l (outcome l s c .store) (cond (isAccepted l s c) (counting n c) n) cs (go (isAccepted l s c))
+  where
+    go : (t : Bool) → Even (cond t (counting n c) n)
+    go true = call-even n c e
+    go false = e
 
 -- a fresh store has no slot used
-fresh-none : usedSlots small (header small (fresh small)) ≡ 0
-unfolding usedSlots tally lacks word bits bit header bytesAt fresh zeros
-fresh-none = refl
+fresh-matches : Matches small (fresh small) []
+unfolding tally word bits bit header bytesAt fresh zeros isUsed howMany
+fresh-matches = record { as-many = λ p. refl }
 
-pub slots-used : (cs : List Call) → usedSlots small (header small (after small (fresh small) cs)) + dropped small (fresh small) cs ≡ created small (fresh small) cs
-slots-used cs = let x = history-counted small sound-small (fresh small) fresh-good cs in omega (arith, x, fresh-none)
+nothing-even : Even nothing
+unfolding howMany
+nothing-even = record { sum = refl }
 
-pub slots-used-less : (cs : List Call) → usedSlots small (header small (after small (fresh small) cs)) ≡ created small (fresh small) cs - dropped small (fresh small) cs
+pub slots-used : (cs : List Call) → usedSlots small (header small (after small (fresh small) cs)) + history small cs .dropped ≡ history small cs .created
+slots-used cs =
+    let u = used-named small sound-small (after small (fresh small) cs) (fresh-history cs) in
+    let m = history-matches small sound-small (fresh small) fresh-good nothing cs fresh-matches .as-many (λ g. true) in
+    omega (arith, u, m, history-even small (fresh small) nothing cs nothing-even .sum)
+
+pub slots-used-less : (cs : List Call) → usedSlots small (header small (after small (fresh small) cs)) ≡ history small cs .created - history small cs .dropped
 slots-used-less cs = omega (arith, slots-used cs)
 
 -- ---- the free ones: every slot is used or free

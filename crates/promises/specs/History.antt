@@ -1,7 +1,7 @@
 -- 01, "The store": "The slots used are the accepted vCPU creations less those dropped by deletes, counted over the history from a
 -- fresh store; 16 less that are free." Here is what is counted; `usedSlots` are the slots used.
 use Prim.Native.Nat.{ℕ, _+_}
-use mathlib.Core.Bool.{Bool, _&&_, _||_, cond}
+use mathlib.Core.Bool.{Bool, _||_, cond}
 use mathlib.Core.List.{List, [], _∷_}
 use lib.Dec.{eqb}
 use Rattle.answer.specs.declared.Call.{Call as Name}
@@ -9,7 +9,8 @@ use Rattle.answer.specs.declared.Registers.{Registers}
 use Rattle.answer.specs.Answer.{told, accepted}
 use Rattle.store.specs.declared.Layout.{Layout}
 use Rattle.store.specs.Search.{tally}
-use Rattle.store.specs.Header.{header, word, isUsed, guestOf, holds}
+use Rattle.store.specs.Header.{holds}
+use Rattle.store.specs.Store.{fresh}
 use Rattle.admission.specs.Refusals.{hasBit0}
 use Rattle.l0.specs.Calls.{Call, GetCapabilities, SetCapabilities, CreateGuest, CreateVcpu, GetState, SetState, RunVcpu, DeleteGuest, GuestClock, outcome}
 
@@ -33,41 +34,53 @@ registers l s c = told (nameOf c) (outcome l s c .answer .fault) (outcome l s c 
 unfoldable pub isAccepted : Layout → List ℕ → Call → Bool
 isAccepted l s c = accepted (registers l s c)
 
--- "the accepted vCPU creations": one slot for each
-abbrev pub creates : Call → ℕ
-creates (GetCapabilities flags) = 0
-creates (SetCapabilities flags bitmap) = 0
-creates (CreateGuest flags token) = 0
-creates (CreateVcpu flags guest vcpu) = 1
-creates (GetState flags guest vcpu buffer) = 0
-creates (SetState flags guest vcpu buffer) = 0
-creates (RunVcpu flags guest vcpu input output effect exit) = 0
-creates (DeleteGuest flags guest) = 0
-creates (GuestClock guest timebase) = 0
+-- What is counted over a history: the vCPUs created and not dropped so far, as (guest, vCPU), how many were created, and how many dropped.
+pub record Count : Type 0 where
+  pub vcpus : List (ℕ × ℕ)
+  pub created : ℕ
+  pub dropped : ℕ
 
--- "those dropped by deletes": the used slots that name the guest, with bit 0 all the used ones; h is the header before the delete
-unfoldable pub isDropped : Layout → List ℕ → ℕ → ℕ → ℕ → Bool
-isDropped l h flags guest a = isUsed l (word l h a) && (hasBit0 flags || eqb (guestOf l (word l h a)) guest)
+abbrev pub nothing : Count
+nothing = record { vcpus = []; created = 0; dropped = 0 }
 
-abbrev pub drops : Layout → List ℕ → Call → ℕ
-drops l h (GetCapabilities flags) = 0
-drops l h (SetCapabilities flags bitmap) = 0
-drops l h (CreateGuest flags token) = 0
-drops l h (CreateVcpu flags guest vcpu) = 0
-drops l h (GetState flags guest vcpu buffer) = 0
-drops l h (SetState flags guest vcpu buffer) = 0
-drops l h (RunVcpu flags guest vcpu input output effect exit) = 0
-drops l h (DeleteGuest flags guest) = tally (isDropped l h flags guest) (l .slots)
-drops l h (GuestClock guest timebase) = 0
+-- the guests g that a delete is for: "delete bit 0 (all guests; the id is then ignored)"
+abbrev pub deletes : ℕ → ℕ → ℕ → Bool
+deletes flags guest g = hasBit0 flags || eqb g guest
 
--- "counted over the history": over the calls cs from the store s on
-unfoldable pub created : Layout → List ℕ → List Call → ℕ
-created l s [] = 0
-created l s (c ∷ cs) = cond (isAccepted l s c) (creates c) 0 + created l (outcome l s c .store) cs
+-- it drops their vCPUs
+unfoldable pub isDropped : ℕ → ℕ → ℕ × ℕ → Bool
+isDropped flags guest v = deletes flags guest (v .0)
 
-unfoldable pub dropped : Layout → List ℕ → List Call → ℕ
-dropped l s [] = 0
-dropped l s (c ∷ cs) = cond (isAccepted l s c) (drops l (header l s) c) 0 + dropped l (outcome l s c .store) cs
+-- how many of the vCPUs have p, and those that have not
+unfoldable pub howMany : (ℕ × ℕ → Bool) → List (ℕ × ℕ) → ℕ
+howMany p [] = 0
+howMany p (v ∷ vs) = cond (p v) 1 0 + howMany p vs
+
+unfoldable pub without : (ℕ × ℕ → Bool) → List (ℕ × ℕ) → List (ℕ × ℕ)
+without p [] = []
+without p (v ∷ vs) = cond (p v) (without p vs) (v ∷ without p vs)
+
+-- what an accepted call adds: "the accepted vCPU creations", and "those dropped by deletes"
+abbrev pub counting : Count → Call → Count
+counting n (GetCapabilities flags) = n
+counting n (SetCapabilities flags bitmap) = n
+counting n (CreateGuest flags token) = n
+counting n (CreateVcpu flags guest vcpu) = record { vcpus = (guest, vcpu) ∷ n .vcpus; created = n .created + 1; dropped = n .dropped }
+counting n (GetState flags guest vcpu buffer) = n
+counting n (SetState flags guest vcpu buffer) = n
+counting n (RunVcpu flags guest vcpu input output effect exit) = n
+counting n (DeleteGuest flags guest) =
+    record { vcpus = without (isDropped flags guest) (n .vcpus); created = n .created; dropped = n .dropped + howMany (isDropped flags guest) (n .vcpus) }
+counting n (GuestClock guest timebase) = n
+
+-- "counted over the history": over the calls cs from the store s on, of which only the answers count
+unfoldable pub counted : Layout → List ℕ → Count → List Call → Count
+counted l s n [] = n
+counted l s n (c ∷ cs) = counted l (outcome l s c .store) (cond (isAccepted l s c) (counting n c) n) cs
+
+-- "from a fresh store"
+abbrev pub history : Layout → List Call → Count
+history l cs = counted l (fresh l) nothing cs
 
 -- how many slots are free: "unused words zero"
 unfoldable pub freeSlots : Layout → List ℕ → ℕ

@@ -1,3 +1,4 @@
 pub mod History
+pub mod Promised
 pub mod Edges
 pub mod Apart

@@ -37,12 +37,12 @@ use Rattle.admission.specs.declared.Target.{Target}
 use Rattle.admission.specs.declared.Target.the-variants.{Turned, At}
 use Rattle.run.specs.declared.Spot.{Spot}
 use Rattle.run.specs.declared.Spot.the-variants.{Off, Slot}
-use Rattle.admission.specs.Refusals.{Outcome, success, refusal, refuse, decide, judgement}
+use Rattle.admission.specs.Refusals.{Outcome, success, refusal, refuse, decide, judgement, Passed}
 use Rattle.admission.specs.Target.{targetTests, baseOf, targetOf}
 use Rattle.state.specs.State.{contextOf, isStopped, faultOf}
 use Rattle.run.specs.Run.{runBits, inputSize, outputSize, lentTests, effectFault, exitTests, spotTests, inputOf, contentTests, runTests, cachedTests, cachedGood, ranStore, ran, runVcpu}
 use Rattle.run.specs.Private.{lentGood, exitGood, spotOf, contentGood, judgedRun}
-use Rattle.admission.proofs.Judging.{begin-refused, begin-admitted, all-refused, all-admitted, was-refused, was-admitted, Passed, judged-passed}
+use Rattle.admission.proofs.Judging.{begin-refused, begin-admitted, all-refused, all-admitted, was-refused, was-admitted, judged-passed}
 use Rattle.admission.proofs.Targets.{target-judged, target-found}
 use Rattle.state.proofs.Buffers.{walked-as, ready-as}
 

@@ -11,7 +11,6 @@ use Rattle.octets.specs.Bytes.{bytesAt, put}
 use Rattle.octets.proofs.Bytes.{Clear, left, right, length-bytesAt, getD-bytesAt, getD-put-other}
 use Rattle.elements.specs.declared.Source.{Source}
 use Rattle.elements.specs.declared.Source.the-variants.{Fixed, Stored}
-use Rattle.elements.specs.declared.Entry.{Entry}
 use Rattle.elements.specs.declared.Kind.{Kind}
 use Rattle.elements.specs.declared.Kind.the-variants.{Unlisted, Nop, Listed}
 use Rattle.rules.specs.declared.Context.{Context}
@@ -24,18 +23,8 @@ use Rattle.gsb.specs.Walk.{countOf, idAt, sizeAt, nextAt, offsetAt, firstBad}
 use Rattle.gsb.proofs.Judged.{GoodElement, good-element}
 use Rattle.gsb.proofs.First.{accepted-exactly}
 use Rattle.transfer.specs.Transfer.{valueAt, putFrom, putAs, applied, readFrom, fillAs, filled, Moves, AllReady}
+use Rattle.transfer.specs.Named.{Named, ValueByte}
 use Rattle.transfer.proofs.Moving.{length-read, length-applied}
-
--- byte j of the store is one of the value of a counted element below n
-pub record Named (base : ℕ) (b : List ℕ) (n j : ℕ) : Type 0 where
-  pub index : ℕ
-  pub counted : index < n
-  pub entry : Entry
-  pub place : ℕ
-  pub listed : kindOf (idAt b (offsetAt b index)) ≡ Listed entry
-  pub stored : entry .source ≡ Stored place
-  pub from : base + place ≤ j
-  pub below : j < base + place + entry .size
 
 module _ (k : Context) (base : ℕ) (b : List ℕ) (d : firstBad k b ≡ Done) where
   good : (i : ℕ) → i < countOf b → GoodElement k b (offsetAt b i)
@@ -97,13 +86,7 @@ module _ (k : Context) (base : ℕ) (b : List ℕ) (d : firstBad k b ≡ Done) w
       off j m (left q) w = omega (arith, w .1)
       off j m (right q) w = omega (arith, w .0)
 
--- byte j of the buffer is one of the value of a counted element below n
-pub record ValueByte (b : List ℕ) (n j : ℕ) : Type 0 where
-  pub index : ℕ
-  pub counted : index < n
-  pub from : offsetAt b index + 4 ≤ j
-  pub below : j < nextAt b (offsetAt b index)
-
+-- ---- the values filled in
 module _ (base : ℕ) (s b : List ℕ) (ready : AllReady base b (length s)) where
   value-frame : (i j : ℕ) (c : List ℕ) → i < countOf b → (ValueByte b (suc i) j → ⊥) → (kind : Kind) → Moves kind base (sizeAt b (offsetAt b i)) (length s)
       → getD (fillAs kind base s (offsetAt b i) c) j 0 ≡ getD c j 0
