@@ -319,10 +319,15 @@ static const char *read_options(struct score *s, int argc, char **argv)
     return NULL;
 }
 
-/* The model as a vendor's library, in the folder of this program: it is found from wherever this one is called. */
+/*
+ * The model as a vendor's library, in the folder of this program: it is found from wherever this one is called. A name
+ * without a folder was found through PATH; the system knows where.
+ */
 static const char *beside(const char *program)
 {
-    static char path[4096];
+    static char own[4096], path[sizeof own + sizeof "model.so"];
+    if (strchr(program, '/') == NULL && readlink("/proc/self/exe", own, sizeof own - 1) > 0)
+        program = own;
     const char *slash = strrchr(program, '/');
     int folder = slash == NULL ? 0 : (int)(slash - program) + 1;
     snprintf(path, sizeof path, "%.*smodel.so", folder, program);

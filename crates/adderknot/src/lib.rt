@@ -51,7 +51,7 @@ pub extern "C" fn adk_create_vcpu(store: &mut [u8], flags: u64, guest: u64, vcpu
 {
     registers_of(
         Call::CreateVcpu,
-        guests::create_vcpu(store, flags, guest, vcpu),
+        vcpus::create_vcpu(store, flags, guest, vcpu),
     )
 }
 

@@ -3,7 +3,7 @@
 use answer::Fault;
 use formed::well_formed;
 use header::is_live;
-use header::slot_of;
+use slots::slot_of;
 use store::Layout;
 use store::guest_at;
 use store::slot_at;

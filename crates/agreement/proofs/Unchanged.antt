@@ -27,6 +27,7 @@ use Rattle.promises.proofs.Told.{none-told}
 use Rattle.marks.specs.Marks.{Cache, valid, isInput, isReadable, goodCache}
 use Rattle.l1.specs.Cache.{valueTests, Wrote, change, writeCache, Got, keep, one, valueIn, fetched, readCache, pending, Ran, ranWith, runCache}
 use Rattle.l1.proofs.Running.{passed-judged, run-accepted}
+use Rattle.agreement.specs.Refused.{Unread, Unrun}
 
 -- ---- write
 pub write-unchanged : (c : Cache) (id : ℕ) (v : List ℕ) → (writeCache c id v .answer .fault ≡ None → ⊥) → writeCache c id v .cache ≡ c
@@ -37,10 +38,6 @@ write-unchanged c id v =
     (λ f n. refl) (λ p n. absurd (n refl))
 
 -- ---- read
-pub record Unread (c : Cache) (v : List ℕ) (r : Got) : Type 0 where
-  pub kept : (r .answer .fault ≡ None → ⊥) → r .cache ≡ c
-  pub left : (r .answer .fault ≡ None → ⊥) → r .value ≡ v
-
 module _ (l : Layout) (s : List ℕ) (guest vcpu : ℕ) (c : Cache) (id : ℕ) (v : List ℕ) where
   abbrev served : Got
   served = record { answer = success 0; cache = c; value = bytesAt (c .values) (elementOf id .position) (elementOf id .size) }
@@ -54,12 +51,12 @@ module _ (l : Layout) (s : List ℕ) (guest vcpu : ℕ) (c : Cache) (id : ℕ) (
   asked : Unread c v (fetched c id (length v) got)
   unfolding fetched
   asked = record {
-    kept = λ n. ap (λ (t : Bool). cond t (keep c id (valueIn (got .buffer) (length v))) c) (ne-eqb (told CacheRead (got .answer .fault) (got .answer .value) .r3) 0 (λ z. n (none-told CacheRead (got .answer .fault) (got .answer .value) z)));
-    left = λ n. ap (λ (b : List ℕ). valueIn b (length v)) (beside .buffer n) ∙ one-value id v;
+    cache = λ n. ap (λ (t : Bool). cond t (keep c id (valueIn (got .buffer) (length v))) c) (ne-eqb (told CacheRead (got .answer .fault) (got .answer .value) .r3) 0 (λ z. n (none-told CacheRead (got .answer .fault) (got .answer .value) z)));
+    value = λ n. ap (λ (b : List ℕ). valueIn b (length v)) (beside .buffer n) ∙ one-value id v;
   }
 
   either : (t : Bool) → Unread c v (cond t served (fetched c id (length v) got))
-  either true = record { kept = λ n. absurd (n refl); left = λ n. absurd (n refl) }
+  either true = record { cache = λ n. absurd (n refl); value = λ n. absurd (n refl) }
   either false = asked
 
   pub read-unchanged : Unread c v (readCache l s guest vcpu c id v)
@@ -67,15 +64,9 @@ module _ (l : Layout) (s : List ℕ) (guest vcpu : ℕ) (c : Cache) (id : ℕ) (
   read-unchanged =
       each-way (Unread c v) (λ f. record { answer = refusal f; cache = c; value = v })
       ((not (goodCache c), CacheBad) ∷ valueTests (isReadable id) id v) (cond (valid c (numberOf id)) served (fetched c id (length v) got))
-      (λ f. record { kept = λ n. refl; left = λ n. refl }) (λ p. either (valid c (numberOf id)))
+      (λ f. record { cache = λ n. refl; value = λ n. refl }) (λ p. either (valid c (numberOf id)))
 
 -- ---- run
-pub record Unrun (s : List ℕ) (c : Cache) (lentIn lentOut : List ℕ) (r : Ran) : Type 0 where
-  pub held : (r .answer .fault ≡ None → ⊥) → r .store ≡ s
-  pub kept : (r .answer .fault ≡ None → ⊥) → r .cache ≡ c
-  pub before : (r .answer .fault ≡ None → ⊥) → r .input ≡ lentIn
-  pub behind : (r .answer .fault ≡ None → ⊥) → r .output ≡ lentOut
-
 module _ (s : List ℕ) (c : Cache) (flags guest vcpu : ℕ) (input output effect : List ℕ) (exit : ℕ) where
   abbrev laid : List ℕ
   laid = put input 0 (message (pending c))
@@ -98,5 +89,5 @@ module _ (s : List ℕ) (c : Cache) (flags guest vcpu : ℕ) (input output effec
   run-unchanged =
       each-way (Unrun s c input output) (λ f. record { answer = refusal f; store = s; cache = c; input = input; output = output })
       ((not (goodCache c), CacheBad) ∷ tests) gone
-      (λ f. record { held = λ n. refl; kept = λ n. refl; before = λ n. refl; behind = λ n. refl })
-      (λ p. record { held = λ n. absurd (n (past p)); kept = λ n. absurd (n (past p)); before = λ n. absurd (n (past p)); behind = λ n. absurd (n (past p)) })
+      (λ f. record { store = λ n. refl; cache = λ n. refl; input = λ n. refl; output = λ n. refl })
+      (λ p. record { store = λ n. absurd (n (past p)); cache = λ n. absurd (n (past p)); input = λ n. absurd (n (past p)); output = λ n. absurd (n (past p)) })

@@ -1,2 +1,3 @@
 pub mod Plain
 pub mod Agree
+pub mod Refused

@@ -2,8 +2,8 @@
 use kinds::number_of;
 use marks::clear_marks;
 use marks::set_mark;
-use octets::get16;
-use octets::get32;
+use reading::get16;
+use reading::get32;
 use transfer::apply;
 ghost use mathlib.Core.Path.{_≡_};
 ghost use lib.ListN.{length};

@@ -1,8 +1,8 @@
 // Whether a store is well formed. Slot words are read from the lent store one at a time.
 use header::is_live;
 use header::slot_word;
-use octets::get64;
 use octets::wide;
+use reading::get64;
 use store::Layout;
 ghost use mathlib.Core.Path.{_≡_};
 ghost use mathlib.Core.Bool.{cond};

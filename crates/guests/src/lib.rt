@@ -1,24 +1,21 @@
-// Guests and vCPUs created and deleted.
+// Guests created and deleted. `vcpus` creates vCPUs; what the three mean is defined here.
 use admission::Admission;
 use admission::admit;
 use answer::Answer;
 use answer::Fault;
 use answer::refusal;
 use answer::success;
-use header::free_guest;
-use header::free_slot;
 use header::is_live;
-use header::slot_of;
+use slots::free_guest;
 use store::small_layout;
 use update::with_guest;
-use update::with_vcpu;
 use update::without_guest;
 use update::without_guests;
 ghost use mathlib.Core.Path.{_≡_};
 ghost use mathlib.Core.List.{[]};
 ghost use Rattle.store.specs.Layout.{small};
 ghost use Rattle.admission.specs.Refusals.{Outcome};
-ghost use Rattle.guests.specs.Guests.{createGuest, createVcpu, deleteGuest};
+ghost use Rattle.guests.specs.Guests.{createGuest, deleteGuest};
 
 // H_GUEST_CREATE.
 pub fn create_guest(store: &mut [u8], flags: u64, token: u64) -> Answer
@@ -38,32 +35,6 @@ pub fn create_guest(store: &mut [u8], flags: u64, token: u64) -> Answer
     }
     with_guest(store, l, guest);
     success(guest as u64)
-}
-
-// H_GUEST_CREATE_VCPU.
-pub fn create_vcpu(store: &mut [u8], flags: u64, guest: u64, vcpu: u64) -> Answer
-    ensures { λ r. ⌜ _≡_ {A = Outcome} (record { answer = r; store = now (store .exit); buffer = [] }) (createVcpu small (now (store .entry)) flags guest vcpu) ⌝ }
-{
-    let l = small_layout();
-    match admit(store, l, 0, flags) {
-        Admission::Refused(fault) => return refusal(fault),
-        Admission::Admitted => {}
-    }
-    if !is_live(store, l, guest as usize) {
-        return refusal(Fault::Guest);
-    }
-    if 2048 <= vcpu {
-        return refusal(Fault::Vcpu);
-    }
-    if slot_of(store, l, guest as usize, vcpu as usize) < l.slots {
-        return refusal(Fault::Exists);
-    }
-    let slot = free_slot(store, l);
-    if l.slots <= slot {
-        return refusal(Fault::Room);
-    }
-    with_vcpu(store, l, slot, guest as usize, vcpu as usize);
-    success(0)
 }
 
 // H_GUEST_DELETE. Bit 0 deletes all guests, and the id is then ignored.

@@ -5,7 +5,7 @@ use answer::refusal;
 use answer::success;
 use formed::well_formed;
 use header::is_live;
-use octets::get64;
+use reading::get64;
 use store::guest_at;
 use store::small_layout;
 ghost use mathlib.Core.Path.{_≡_};

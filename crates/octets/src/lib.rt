@@ -1,9 +1,9 @@
-// Bytes in a lent slice: big-endian numbers read, and the first bytes of it lent on.
-// `writing` and `copying` write; everything above reads and writes lent memory through the three.
+// A byte widened, the bytes of a number swapped, the first bytes of a lent slice. `reading`, `writing` and `copying` stand on
+// these: everything above reads and writes lent memory through the four.
 ghost use mathlib.Core.Path.{_≡_};
-ghost use Prim.Native.Nat.{_+_, _*_, _≤_, _<_, _^_};
+ghost use Prim.Native.Nat.{_≤_, _<_};
 ghost use lib.ListN.{length};
-ghost use Rattle.octets.specs.Bytes.{bytesAt, be};
+ghost use Rattle.octets.specs.Bytes.{bytesAt};
 ghost use Rattle.octets.specs.Private.{swap2, swap4, swap8};
 
 // A byte as a wide number, so that a read asks its caller for no cast.
@@ -32,60 +32,6 @@ pub fn swap64(v: u64) -> u64
 {
     swap32((v % 0x1_0000_0000) as u32) as u64 * 0x1_0000_0000
         + swap32((v / 0x1_0000_0000) as u32) as u64
-}
-
-// Two bytes as the machine reads them: enough to tell whether they are those of a number that was swapped once.
-pub fn pair(b: &[u8], at: usize) -> u16
-    requires { ⌜ at + 2 ≤ length (now b) ⌝ }
-    ensures { λ r. ⌜ (r ≡ swap2 (be (now (b .entry)) at 2)) × (be (now (b .entry)) at 2 < 2 ^ 16) ⌝ }
-{
-    (wide(b[at]) + wide(b[at + 1]) * 256) as u16
-}
-
-fn quad(b: &[u8], at: usize) -> u32
-    requires { ⌜ at + 4 ≤ length (now b) ⌝ }
-    ensures { λ r. ⌜ (r ≡ swap4 (be (now (b .entry)) at 4)) × (be (now (b .entry)) at 4 < 2 ^ 32) ⌝ }
-{
-    pair(b, at) as u32 + pair(b, at + 2) as u32 * 0x1_0000
-}
-
-fn octet(b: &[u8], at: usize) -> u64
-    requires { ⌜ at + 8 ≤ length (now b) ⌝ }
-    ensures { λ r. ⌜ (r ≡ swap8 (be (now (b .entry)) at 8)) × (be (now (b .entry)) at 8 < 2 ^ 64) ⌝ }
-{
-    quad(b, at) as u64 + quad(b, at + 4) as u64 * 0x1_0000_0000
-}
-
-// Wide enough for an ID, a size or a slot word.
-pub fn get16(b: &[u8], at: usize) -> u16
-    requires { ⌜ at + 2 ≤ length (now b) ⌝ }
-    ensures { λ r. ⌜ r ≡ be (now (b .entry)) at 2 ⌝ }
-{
-    swap16(pair(b, at))
-}
-
-// The count of a buffer, and an element's header.
-pub fn get32(b: &[u8], at: usize) -> u32
-    requires { ⌜ at + 4 ≤ length (now b) ⌝ }
-    ensures { λ r. ⌜ r ≡ be (now (b .entry)) at 4 ⌝ }
-{
-    swap32(quad(b, at))
-}
-
-// Two numbers of 2 bytes in one, the second above the first: an element's size and its ID are tested together.
-pub fn get_turned(b: &[u8], at: usize) -> u32
-    requires { ⌜ at + 4 ≤ length (now b) ⌝ }
-    ensures { λ r. ⌜ (r ≡ be (now (b .entry)) (at + 2) 2 * 2 ^ 16 + be (now (b .entry)) at 2) × (be (now (b .entry)) at 2 < 2 ^ 16) ⌝ }
-{
-    let w = get32(b, at);
-    w % 0x1_0000 * 0x1_0000 + w / 0x1_0000
-}
-
-pub fn get64(b: &[u8], at: usize) -> u64
-    requires { ⌜ at + 8 ≤ length (now b) ⌝ }
-    ensures { λ r. ⌜ r ≡ be (now (b .entry)) at 8 ⌝ }
-{
-    swap64(octet(b, at))
 }
 
 // The first bytes of a lent slice.

@@ -15,7 +15,7 @@ use gsb::bad_length;
 use gsb::first_bad;
 use header::capabilities_of;
 use octets::first_bytes;
-use octets::get64;
+use reading::get64;
 use rules::Context;
 use rules::Usage;
 use rules::good_input;
