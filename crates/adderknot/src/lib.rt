@@ -102,7 +102,7 @@ pub extern "C" fn adk_run_vcpu(
 {
     registers_of(
         Call::RunVcpu,
-        run::run_vcpu(
+        entry::run_vcpu(
             store,
             flags,
             guest,

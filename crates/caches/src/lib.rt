@@ -1,7 +1,7 @@
 // Which elements go through the L1 cache, and whether a cache is well formed.
 use kinds::kind_of;
-use kinds::thread_element;
 use marks::is_marked;
+use numbers::thread_element;
 use rules::Context;
 use rules::Usage;
 use rules::permitted;

@@ -1,6 +1,6 @@
 // What the operations are made of, drawn from one row of numbers: each night is the same, and both L1s are given the same.
-use kinds::number_of;
-use kinds::thread_element;
+use numbers::number_of;
+use numbers::thread_element;
 use writing::put16;
 use writing::put32;
 ghost use mathlib.Core.Path.{_≡_};

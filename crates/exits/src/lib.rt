@@ -1,7 +1,7 @@
 // The exits of a run: the one constant table of which elements each returns, and the output that they make.
 use gsb::put_element;
-use kinds::number_of;
-use kinds::thread_element;
+use numbers::number_of;
+use numbers::thread_element;
 use rules::within;
 use writing::put32;
 ghost use mathlib.Core.Path.{_≡_};

@@ -1,9 +1,9 @@
 // What a run sends: a count and the changed elements, in order of ID, at the input's first bytes.
 // Marks 192 to 361 are the changed marks of elements 0 to 169.
 use gsb::put_element;
-use kinds::thread_element;
 use marks::changed_count;
 use marks::next_mark;
+use numbers::thread_element;
 use writing::put32;
 ghost use mathlib.Core.Path.{_≡_};
 ghost use mathlib.Core.Bool.{true};

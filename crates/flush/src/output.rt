@@ -1,7 +1,7 @@
 // What a run's output does to the cache: its elements are valid with its values, and nothing else is.
-use kinds::number_of;
 use marks::clear_marks;
 use marks::set_mark;
+use numbers::number_of;
 use reading::get16;
 use reading::get32;
 use transfer::apply;

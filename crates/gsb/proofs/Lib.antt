@@ -1,6 +1,5 @@
 mod Tests
 pub mod Judged
-pub mod Quick
 pub mod Walks
 pub mod First
 pub mod Messages

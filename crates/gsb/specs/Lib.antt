@@ -1,4 +1,3 @@
 pub mod Walk
 pub mod First
 pub mod Message
-pub mod Private

@@ -1,12 +1,12 @@
-// The guest state buffer: one element judged, the walk over all that are counted, and one element written.
-mod walk;
+// The guest state buffer: one element judged, and one written. `walk` judges all that are counted; what the three mean is
+// defined here.
+mod judging;
 mod write;
 
 use answer::Bad;
 use answer::Place;
-pub use walk::bad_length;
-pub use walk::first_bad;
-pub use walk::judge;
+pub use judging::bad_length;
+pub use judging::judge;
 pub use write::put_element;
 
 // An element: good, with the offset of the next, or what is wrong with it.

@@ -1,37 +1,28 @@
-// Run vCPU. Everything is judged before a byte of the store or of the output changes.
+// The tests of a run, before a byte of the store or of the output changes. `entry` runs; what both mean is defined here.
 use admission::Admission;
 use admission::Target;
 use admission::small_target;
-use answer::Answer;
 use answer::Fault;
 use answer::Place;
 use answer::RunBuffer;
-use answer::refusal;
-use answer::success;
 use exits::is_known;
-use exits::put_output;
 use gsb::Walked;
 use gsb::bad_length;
-use gsb::first_bad;
 use header::capabilities_of;
 use octets::first_bytes;
 use reading::get64;
 use rules::Context;
 use rules::Usage;
-use rules::good_input;
-use rules::good_output;
 use store::Layout;
 use store::small_layout;
-use transfer::apply;
+use values::good_input;
+use values::good_output;
+use walk::first_bad;
 ghost use mathlib.Core.Path.{_≡_};
-ghost use mathlib.Core.Bool.{true};
 ghost use Prim.Native.Nat.{_+_, _≤_};
 ghost use lib.ListN.{length};
-ghost use Rattle.exits.specs.Exits.{known};
-ghost use Rattle.transfer.specs.Transfer.{AllReady};
 ghost use Rattle.store.specs.Layout.{Sound, small, slotBytes};
-ghost use Rattle.admission.specs.Refusals.{Outcome};
-ghost use Rattle.run.specs.Run.{cachedGood, ran, runVcpu};
+ghost use Rattle.run.specs.Run.{cachedGood};
 ghost use Rattle.run.specs.Private.{lentGood, exitGood, contentGood, spotOf, judgedRun};
 
 // What a run works on: where the vCPU's values start, and how many bytes of the lent input count; or a refusal.
@@ -144,7 +135,7 @@ fn judge_content(store: &[u8], l: Layout, input: &[u8], effect: &[u8], exit: u64
 }
 
 // All the tests of a run.
-fn judge_run(
+pub fn judge_run(
     store: &[u8],
     l: Layout,
     flags: u64,
@@ -199,61 +190,5 @@ pub fn judge_cached(
     match spot {
         Spot::Off(fault) => Admission::Refused(fault),
         Spot::Slot(_, _) => judge_exit(store, l, effect, exit),
-    }
-}
-
-// The input is applied, then the effect; then the output is written, with the values as they then are.
-fn run_at(
-    store: &mut [u8],
-    base: usize,
-    input: &[u8],
-    output: &mut [u8],
-    effect: &[u8],
-    exit: u64,
-) -> Answer
-    requires { ⌜ AllReady base (now input) (length (now store)) × AllReady base (now effect) (length (now store)) × (known exit ≡ true) × (base + slotBytes ≤ length (now store)) × (124 ≤ length (now output)) ⌝ }
-    ensures { λ r. ⌜ _≡_ {A = Outcome} (record { answer = r; store = now (store .exit); buffer = now (output .exit) }) (ran base (now (store .entry)) (now (input .entry)) (now (output .entry)) (now (effect .entry)) exit) ⌝ }
-{
-    apply(store, base, input);
-    apply(store, base, effect);
-    put_output(store, base, exit, output);
-    success(exit)
-}
-
-// H_GUEST_RUN_VCPU.
-pub fn run_vcpu(
-    store: &mut [u8],
-    flags: u64,
-    guest: u64,
-    vcpu: u64,
-    input: &[u8],
-    output: &mut [u8],
-    effect: &[u8],
-    exit_reason: u64,
-) -> Answer
-    ensures { λ r. ⌜ _≡_ {A = Outcome} (record { answer = r; store = now (store .exit); buffer = now (output .exit) }) (runVcpu small (now (store .entry)) flags guest vcpu (now (input .entry)) (now (output .entry)) (now (effect .entry)) «exit_reason») ⌝ }
-{
-    let l = small_layout();
-    let spot = judge_run(
-        store,
-        l,
-        flags,
-        guest as usize,
-        vcpu as usize,
-        input,
-        output.len(),
-        effect,
-        exit_reason,
-    );
-    match spot {
-        Spot::Off(fault) => refusal(fault),
-        Spot::Slot(base, size) => run_at(
-            store,
-            base,
-            first_bytes(input, size),
-            output,
-            effect,
-            exit_reason,
-        ),
     }
 }

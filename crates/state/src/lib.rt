@@ -1,37 +1,30 @@
-// Get state and set state. The whole buffer is judged before a byte of the store or of the buffer changes.
+// Get state and set state. The whole buffer is judged before a byte of the store or of the buffer changes. `single` gets one element;
+// what it means is defined here.
 use admission::Admission;
 use admission::Target;
 use admission::small_target;
-use admission::target_of;
 use answer::Answer;
 use answer::Fault;
 use answer::refusal;
 use answer::success;
-use copying::copy;
 use filling::fill;
 use gsb::Walked;
 use gsb::bad_length;
-use gsb::first_bad;
 use header::capabilities_of;
-use kinds::number_of;
-use kinds::thread_element;
 use rules::Context;
 use rules::Usage;
 use store::Layout;
 use store::small_layout;
 use transfer::apply;
+use walk::first_bad;
 ghost use mathlib.Core.Path.{_≡_};
-ghost use mathlib.Core.Bool.{true};
 ghost use mathlib.Core.List.{[]};
-ghost use Prim.Native.Nat.{_+_, _≤_, _<_};
+ghost use Prim.Native.Nat.{_+_, _≤_};
 ghost use lib.ListN.{length};
-ghost use Rattle.octets.specs.Bytes.{bytesAt};
 ghost use Rattle.rules.specs.declared.Usage.the-variants.{ThreadGet};
-ghost use Rattle.elements.specs.Table.{kindOf, numberOf, threadElement};
-ghost use Rattle.rules.specs.Rules.{permits};
 ghost use Rattle.store.specs.Layout.{Sound, small};
 ghost use Rattle.admission.specs.Refusals.{Outcome, hasBit0};
-ghost use Rattle.state.specs.State.{setUse, setState, getUse, getState, gotElement};
+ghost use Rattle.state.specs.State.{setUse, setState, getUse, getState};
 ghost use Rattle.state.specs.Private.{bufferGood, setAt, getAt, bytesFor};
 
 // Guest-wide.
@@ -127,23 +120,5 @@ pub fn get_state(store: &[u8], flags: u64, guest: u64, vcpu: u64, buffer: &mut [
     match target {
         Target::Turned(fault) => refusal(fault),
         Target::At(base) => get_at(store, l, base, get_use(wide), buffer),
-    }
-}
-
-// H_GUEST_GET_STATE with a buffer of one element, for the L1 cache: the value comes straight from the slot.
-pub fn get_element(store: &[u8], guest: u64, vcpu: u64, id: u16, value: &mut [u8]) -> Answer
-    requires { ⌜ (permits (record { usage = ThreadGet; capabilities = 0 }) id (kindOf id) ≡ true) × (0 < id) × (length (now value) ≡ threadElement (numberOf id) .size) ⌝ }
-    ensures { λ r. ⌜ r ≡ gotElement (now (store .entry)) guest vcpu id (now (value .entry)) .answer ⌝ }
-    ensures { λ r. ⌜ now (value .exit) ≡ bytesAt (gotElement (now (store .entry)) guest vcpu id (now (value .entry)) .buffer) 8 (length (now (value .entry))) ⌝ }
-{
-    let l = small_layout();
-    let target = target_of(store, l, BIT_0, 0, false, guest as usize, vcpu as usize);
-    match target {
-        Target::Turned(fault) => refusal(fault),
-        Target::At(base) => {
-            let x = thread_element(number_of(id));
-            copy(store, base + x.position, value, 0, x.size);
-            success(0)
-        }
     }
 }
