@@ -49,22 +49,21 @@ module _ (b : List ℕ) (at : ℕ) where
       let u : nextAt b at ≤ length b = omega arith in
       rw e (simp (le-ltb _ _ t, le-ltb _ _ u))
 
-  -- a size that the number above the ID tells
-  module _ (size key : ℕ) (r : Bool) (room : 4 ≤ length b - at) (e : size ≡ sizeAt b at) (l : size ≤ length b - at - 4)
-      (k : key ≡ sizeAt b at * 2 ^ 16 + idAt b at) (i : idAt b at < 2 ^ 16) where
+  -- a size that the number above the ID tells, of a value that lies inside
+  module _ (key : ℕ) (r : Bool) (room : 20 ≤ length b - at) (k : key ≡ sizeAt b at * 2 ^ 16 + idAt b at) (i : idAt b at < 2 ^ 16) where
     pub framed-eight : r ≡ between 0x80000 0x8FFFF key → r ≡ true → Good (at + 12) ≡ framed b at
     framed-eight p q =
         let low : 0x80000 ≤ key = between-low 0x80000 0x8FFFF key (sym p ∙ q) in
         let high : key ≤ 0x8FFFF = between-high 0x80000 0x8FFFF key (sym p ∙ q) in
-        let n : at + 12 ≡ at + 4 + size = omega arith in
-        ap Good n ∙ framed-good size room e l
+        let n : at + 12 ≡ at + 4 + 8 = omega arith in
+        ap Good n ∙ framed-good 8 (omega arith) (omega arith) (omega arith)
 
     pub framed-sixteen : r ≡ between 0x100000 0x10FFFF key → r ≡ true → Good (at + 20) ≡ framed b at
     framed-sixteen p q =
         let low : 0x100000 ≤ key = between-low 0x100000 0x10FFFF key (sym p ∙ q) in
         let high : key ≤ 0x10FFFF = between-high 0x100000 0x10FFFF key (sym p ∙ q) in
-        let n : at + 20 ≡ at + 4 + size = omega arith in
-        ap Good n ∙ framed-good size room e l
+        let n : at + 20 ≡ at + 4 + 16 = omega arith in
+        ap Good n ∙ framed-good 16 (omega arith) (omega arith) (omega arith)
 
   pub framed-inside : (next : ℕ) (v : Verdict) → v ≡ framed b at → v ≡ Good next → (next ≡ nextAt b at) × (nextAt b at ≤ length b)
   unfolding framed

@@ -32,8 +32,7 @@ pub struct Found {
     pub len: usize,
 }
 
-// The sizes of nearly all elements are told by the number above them, so that the next element does not wait for this one's.
-fn frame(b: &[u8], at: usize) -> Verdict
+fn frame_any(b: &[u8], at: usize) -> Verdict
     requires { ⌜ at ≤ length (now b) ⌝ }
     ensures { λ r. ⌜ r ≡ framed (now (b .entry)) at ⌝ }
 {
@@ -44,6 +43,17 @@ fn frame(b: &[u8], at: usize) -> Verdict
     if b.len() - at - 4 < size {
         return Verdict::Faulty(Bad::Size);
     }
+    Verdict::Good(at + 4 + size)
+}
+
+// The sizes of nearly all elements are told by the number above them, so that the next element does not wait for this one's.
+fn frame(b: &[u8], at: usize) -> Verdict
+    requires { ⌜ at ≤ length (now b) ⌝ }
+    ensures { λ r. ⌜ r ≡ framed (now (b .entry)) at ⌝ }
+{
+    if b.len() - at < 20 {
+        return frame_any(b, at);
+    }
     let key = get_turned(b, at) as u64;
     if within(0x8_0000, 0x8_FFFF, key) {
         return Verdict::Good(at + 12);
@@ -51,7 +61,7 @@ fn frame(b: &[u8], at: usize) -> Verdict
     if within(0x10_0000, 0x10_FFFF, key) {
         return Verdict::Good(at + 20);
     }
-    Verdict::Good(at + 4 + size)
+    frame_any(b, at)
 }
 
 fn later(b: &[u8], id: u16, at: usize, last: Last) -> Last

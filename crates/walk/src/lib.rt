@@ -7,14 +7,14 @@ use gsb::judge;
 use reading::get_turned;
 use reading::get32;
 use rules::Context;
+use rules::Usage;
 use rules::of_thread;
 use rules::within;
 ghost use mathlib.Core.Path.{_≡_};
 ghost use Prim.Native.Nat.{_+_, _≤_, _<_};
 ghost use lib.ListN.{length};
 ghost use Rattle.gsb.specs.declared.Walked.the-variants.{Done};
-ghost use Rattle.rules.specs.Private.{ofThread};
-ghost use Rattle.walk.specs.Private.{Hasty};
+ghost use Rattle.walk.specs.Private.{reachOf, Hasty, Skipped};
 ghost use Rattle.gsb.specs.Walk.{judged, after, firstBad};
 
 // What a verdict that is not good makes of the walk.
@@ -27,45 +27,64 @@ fn stop(verdict: Verdict, index: usize, offset: usize) -> Walked
     }
 }
 
-// The registers but PPR, which every use of a vCPU permits and no value rule names, and an empty NOP: good by one read if
-// `thread` says that the use is one and they lie well inside the buffer. A fault is no verdict: it leaves them to `judge`.
-fn quick(b: &[u8], at: usize, thread: bool) -> Verdict
-    requires { ⌜ at ≤ length (now b) ⌝ }
-    ensures { λ r. ⌜ Hasty r thread (now (b .entry)) at ⌝ }
+// How far `quick` may look: to the end, where the use is about a vCPU; nowhere else.
+fn reach(b: &[u8], usage: Usage) -> usize
+    ensures { λ r. ⌜ r ≡ reachOf usage (now (b .entry)) ⌝ }
 {
-    if !thread {
-        return Verdict::Faulty(Bad::Size);
+    if of_thread(usage) {
+        return b.len();
     }
-    if b.len() - at < 12 {
+    0
+}
+
+// The registers but PPR, which every use of a vCPU permits and no value rule names, and an empty NOP: good by one read if they lie
+// well within `room`, which is `reach`. A fault is no verdict: it leaves them to `judge`.
+fn quick(b: &[u8], at: usize, room: usize) -> Verdict
+    requires { ⌜ (at ≤ length (now b)) × (room ≤ length (now b)) ⌝ }
+    ensures { λ r. ⌜ Hasty r room (now (b .entry)) at ⌝ }
+{
+    if room < at + 12 {
         return Verdict::Faulty(Bad::Size);
     }
     let key = get_turned(b, at) as u64;
-    if within(0x8_1000, 0x8_1039, key) {
+    if within(0x8_1000, 0x8_1053, key) {
+        if key == 0x8_103A {
+            return Verdict::Faulty(Bad::Size);
+        }
         return Verdict::Good(at + 12);
-    }
-    if within(0x10_3000, 0x10_303F, key) & (20 <= b.len() - at) {
-        return Verdict::Good(at + 20);
-    }
-    if within(0x8_103B, 0x8_1053, key) {
-        return Verdict::Good(at + 12);
-    }
-    if within(0x4_2000, 0x4_200E, key) {
-        return Verdict::Good(at + 8);
     }
     if key == 0 {
         return Verdict::Good(at + 4);
     }
+    if within(0x10_3000, 0x10_303F, key) & (at + 20 <= room) {
+        return Verdict::Good(at + 20);
+    }
+    if within(0x4_2000, 0x4_200E, key) {
+        return Verdict::Good(at + 8);
+    }
     Verdict::Faulty(Bad::Size)
 }
 
-fn judge_next(b: &[u8], at: usize, k: Context, thread: bool) -> Verdict
-    requires { ⌜ (at ≤ length (now b)) × (thread ≡ ofThread (k .usage)) ⌝ }
-    ensures { λ r. ⌜ r ≡ judged k (now (b .entry)) at ⌝ }
+// Past the elements from a place on that `quick` finds good: a loop of their own is short.
+fn skip(b: &[u8], count: usize, from: Place, room: usize) -> Place
+    requires { ⌜ (from .index ≤ count) × (from .offset ≤ length (now b)) × (room ≤ length (now b)) ⌝ }
+    ensures { λ r. ⌜ Skipped (now (b .entry)) count room from r ⌝ }
 {
-    let verdict = quick(b, at, thread);
-    match verdict {
-        Verdict::Good(next) => Verdict::Good(next),
-        Verdict::Faulty(_) => judge(b, at, k),
+    let mut at = from.offset;
+    let mut i = from.index;
+    while i < count {
+        let Verdict::Good(next) = quick(b, at, room) else {
+            return Place {
+                index: i,
+                offset: at,
+            };
+        };
+        at = next;
+        i += 1;
+    }
+    Place {
+        index: i,
+        offset: at,
     }
 }
 
@@ -75,20 +94,34 @@ pub fn first_bad(b: &[u8], k: Context) -> Walked
     ensures { λ r. ⌜ r ≡ firstBad k (now (b .entry)) ⌝ }
 {
     let count = get32(b, 0) as usize;
+    if count == 0 {
+        return Walked::Done;
+    }
     let usage = k.usage;
-    let thread = of_thread(usage);
+    let room = reach(b, usage);
     let mut at = 4;
     let mut i = 0;
     let end = 'walk: loop {
-        if count <= i {
+        let here = skip(
+            b,
+            count,
+            Place {
+                index: i,
+                offset: at,
+            },
+            room,
+        );
+        let index = here.index;
+        let offset = here.offset;
+        if count <= index {
             break 'walk Walked::Done;
         }
-        let verdict = judge_next(b, at, k, thread);
+        let verdict = judge(b, offset, k);
         let Verdict::Good(next) = verdict else {
-            break 'walk stop(verdict, i, at);
+            break 'walk stop(verdict, index, offset);
         };
         at = next;
-        i += 1;
+        i = index + 1;
     };
     end
 }

@@ -1,7 +1,8 @@
--- The invariant is the walk that is left: the laws `first-start` and `turn-..` of Walks.
-use Rattle.gsb.proofs.Walks.{turn-good, turn-bad, turn-end, first-start}
+-- The invariant is the walk that is left: the laws `first-start` of Walks and `skip-..` of Registers.
+use Rattle.gsb.proofs.Walks.{first-start}
 use Rattle.gsb.proofs.Judged.{good-inside}
 use Rattle.gsb.specs.Walk.{judged, walk, firstBad}
+use Rattle.walk.proofs.Registers.{reach-lent, first-none, skip-end, skip-good, skip-bad}
 use Prim.Native.Nat.{_-_, _≤_}
 use lib.ListN.{length}
 use mathlib.Core.Path.{_≡_}
@@ -10,10 +11,10 @@ use Rattle.walk.proofs.first_bad.Statement.{statement}
 use Rattle.walk.proofs.first_bad.Tie as tie
 
 abbrev Inv-walk : tie.InvT-walk
-Inv-walk b k count thread at₀ i₀ at i = (i ≤ count) × (at ≤ length b) × (firstBad k b ≡ walk (judged k b) (count - i) i at)
+Inv-walk b k count room at₀ i₀ at i = (i ≤ count) × (at ≤ length b) × (firstBad k b ≡ walk (judged k b) (count - i) i at)
 
 abbrev μ-walk : tie.MeasureT-walk
-μ-walk b k count thread at₀ i₀ at i = count - i
+μ-walk b k count room at₀ i₀ at i = count - i
 
 get32-requires : tie.Need-get32-requires Inv-walk μ-walk
 get32-requires c κs = search needs
@@ -21,14 +22,20 @@ get32-requires c κs = search needs
 cast-count : tie.Need-cast-count Inv-walk μ-walk
 cast-count c = search needs
 
-of-thread-requires : tie.Need-of-thread-requires Inv-walk μ-walk
-of-thread-requires c κs = search needs
+returns : tie.Need-returns Inv-walk μ-walk
+returns c = search (needs, first-none)
+
+reach-requires : tie.Need-reach-requires Inv-walk μ-walk
+reach-requires c κs = search needs
 
 walk-holds : tie.Need-walk-holds Inv-walk μ-walk
 walk-holds c = (search needs, search needs, search (needs, first-start))
 
-judge-next-requires : tie.Need-judge-next-requires Inv-walk μ-walk
-judge-next-requires c κs = search needs
+skip-requires : tie.Need-skip-requires Inv-walk μ-walk
+skip-requires c κs = (search needs, search needs, search (needs, reach-lent))
+
+judge-requires : tie.Need-judge-requires Inv-walk μ-walk
+judge-requires c κs = search needs
 
 enum-known-verdict : tie.Need-enum-known-verdict Inv-walk μ-walk
 enum-known-verdict c = search needs
@@ -46,13 +53,13 @@ walk-less : tie.Need-walk-less Inv-walk μ-walk
 walk-less c = search needs
 
 walk-again : tie.Need-walk-again Inv-walk μ-walk
-walk-again c = (search needs, search (needs, good-inside), search (needs, turn-good))
-
-returns : tie.Need-returns Inv-walk μ-walk
-returns c = search (needs, turn-end)
+walk-again c = (search needs, search (needs, good-inside), search (needs, skip-good))
 
 returns-2 : tie.Need-returns-2 Inv-walk μ-walk
-returns-2 c = search (needs, turn-bad)
+returns-2 c = search (needs, skip-end)
+
+returns-3 : tie.Need-returns-3 Inv-walk μ-walk
+returns-3 c = search (needs, skip-bad)
 
 pub first-bad-spec : {M : Type 1} → statement M
 first-bad-spec =
@@ -62,14 +69,16 @@ first-bad-spec =
     μ-walk
     get32-requires
     cast-count
-    of-thread-requires
+    returns
+    reach-requires
     walk-holds
-    judge-next-requires
+    skip-requires
+    judge-requires
     enum-known-verdict
     enum-told
     stop-requires
     add-i
     walk-less
     walk-again
-    returns
-    returns-2)
+    returns-2
+    returns-3)
