@@ -1,5 +1,5 @@
-// The lent store: its layout, and where a guest's and a slot's values start. `header` tests a store and searches in it,
-// `update` changes it; what both mean is defined here.
+// The lent store: its layout, and where a guest's and a slot's values start. `header`, `slots` and `formed` read its header, `fields`,
+// `update` and `removal` change it; what they all mean is defined here.
 ghost use mathlib.Core.Path.{_≡_};
 ghost use Prim.Native.Nat.{_+_, _≤_, _<_, _*_};
 ghost use Rattle.store.specs.Layout.{Sound, small, guestAt, slotAt, guestBytes, slotBytes};

@@ -21,6 +21,10 @@ use Rattle.elements.specs.Private.{threadKind}
 use Rattle.gsb.specs.Walk.{countOf, idAt, sizeAt, nextAt, offsetAt}
 use Rattle.gsb.proofs.Judged.{empty-parts, nop}
 use Rattle.gsb.proofs.Walks.{offset-next}
+use Rattle.answer.specs.declared.Place.{Place}
+use Rattle.transfer.specs.declared.Step.{Step}
+use Rattle.transfer.specs.declared.Step.the-variants.{Next, Other}
+use Rattle.transfer.specs.Private.{Stepped, Onward}
 use Rattle.transfer.specs.Transfer.{valueAt, putFrom, putAs, applied, readFrom, fillAs, Fits, Moves, Ready, AllReady}
 
 abbrev entry : ℕ → Access → ℕ → Entry
@@ -191,3 +195,55 @@ module _ (base : ℕ) (b s : List ℕ) where
 -- where the next element starts, by what was returned
 pub next-turn : (b : List ℕ) (i at r : ℕ) → at ≡ offsetAt b i → r ≡ nextAt b at → r ≡ offsetAt b (i + 1)
 next-turn b i at r e h = h ∙ offset-next b i at e
+
+-- ---- the turns of `store_registers`, from the store s on
+pub other-same : (base : ℕ) (b : List ℕ) (at : ℕ) (v : Step) (t w : List ℕ) → Stepped v base b at t w → v ≡ Other → w ≡ t
+other-same base b at v t w h e = subst (λ (x : Step). Stepped x base b at t w) e h
+
+module _ (base : ℕ) (b : List ℕ) (count : ℕ) (from : Place) (s : List ℕ) where
+  -- where s has the elements before the first place, t has those before i
+  abbrev pub Since : ℕ → List ℕ → Type 0
+  Since i t = (u : List ℕ) → s ≡ applied base b (from .index) u → t ≡ applied base b i u
+
+  pub since-start : Since (from .index) s
+  since-start u e = e
+
+  step-of : (at next : ℕ) (v : Step) (t w : List ℕ) → Stepped v base b at t w → v ≡ Next next → Stepped (Next next) base b at t w
+  step-of at next v t w h e = subst (λ (x : Step). Stepped x base b at t w) e h
+
+  pub since-next : (i at next : ℕ) (v : Step) (t w : List ℕ) → Since i t → at ≡ offsetAt b i → Stepped v base b at t w → v ≡ Next next → Since (i + 1) w
+  since-next i at next v t w f o h e u g = apply-turn base b u i at t w (f u g) o (step-of at next v t w h e .1)
+
+  pub since-place : (i at next : ℕ) (v : Step) (t w : List ℕ) → at ≡ offsetAt b i → Stepped v base b at t w → v ≡ Next next → next ≡ offsetAt b (i + 1)
+  since-place i at next v t w o h e = next-turn b i at next o (step-of at next v t w h e .0)
+
+  pub since-length : (at next : ℕ) (v : Step) (t w : List ℕ) → Stepped v base b at t w → v ≡ Next next → length t ≡ length s → length w ≡ length s
+  since-length at next v t w h e l =
+      ap length (step-of at next v t w h e .1) ∙ length-putAs (kindOf (idAt b at)) base (valueAt b at) t ∙ l
+
+  pub moved-on : (i at : ℕ) (t w : List ℕ) → from .index ≤ i → i ≤ count → at ≡ offsetAt b i → Since i t → w ≡ t
+      → Onward base b count from (record { index = i; offset = at }) s w
+  moved-on i at t w o h p f e = record { onward = o; upto = h; place = p; stored = λ u g. e ∙ f u g }
+
+-- ---- the turns of `apply`, each after registers
+module _ (base : ℕ) (b : List ℕ) (count : ℕ) (from to : Place) (s t u : List ℕ) (o : Onward base b count from to t u) (e : t ≡ applied base b (from .index) s) where
+  pub onward-end : count ≡ countOf b → count ≤ to .index → u ≡ applied base b (countOf b) s
+  onward-end c h = apply-end base b s (to .index) count u (o .stored s e) c (o .upto) h
+
+  pub onward-turn : (v : List ℕ) → v ≡ putAs (kindOf (idAt b (to .offset))) base (valueAt b (to .offset)) u → v ≡ applied base b (to .index + 1) s
+  onward-turn v h = apply-turn base b s (to .index) (to .offset) u v (o .stored s e) (o .place) h
+
+  pub onward-length : length u ≡ length s
+  onward-length = ap length (o .stored s e) ∙ length-applied base b s (to .index)
+
+pub onward-place : (base : ℕ) (b : List ℕ) (count : ℕ) (from to : Place) (t u : List ℕ) (r : ℕ) → Onward base b count from to t u → r ≡ nextAt b (to .offset)
+    → r ≡ offsetAt b (to .index + 1)
+onward-place base b count from to t u r o h = next-turn b (to .index) (to .offset) r (o .place) h
+
+-- a store of the same length has room for the same elements
+pub ready-all : (base : ℕ) (b : List ℕ) (len m : ℕ) → AllReady base b len → m ≡ len → AllReady base b m
+ready-all base b len m a e = subst (AllReady base b) (sym e) a
+
+pub ready-onward : (base : ℕ) (b : List ℕ) (len count : ℕ) (from to : Place) (t u : List ℕ) (m : ℕ) → AllReady base b len → count ≡ countOf b → to .index < count
+    → Onward base b count from to t u → m ≡ len → Ready base b (to .offset) m
+ready-onward base b len count from to t u m a c h o e = ready-at base b len count (to .index) (to .offset) m a c h (o .place) e

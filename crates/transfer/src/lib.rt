@@ -1,5 +1,6 @@
 // An accepted guest state buffer's values, moved to a guest's or a slot's values, which start at `base` of the store.
 // Apart from the calls, since set and run share it. `filling` moves them the other way; what both mean is defined here.
+use answer::Place;
 use copying::copy;
 use elements::Kind;
 use elements::Source;
@@ -12,8 +13,15 @@ ghost use Prim.Native.Nat.{_+_, _≤_};
 ghost use lib.ListN.{length};
 ghost use Rattle.octets.specs.Bytes.{bytesAt};
 ghost use Rattle.elements.specs.Table.{kindOf};
-ghost use Rattle.gsb.specs.Walk.{countOf, idAt, nextAt};
+ghost use Rattle.gsb.specs.Walk.{countOf, idAt, nextAt, offsetAt};
 ghost use Rattle.transfer.specs.Transfer.{valueAt, putFrom, putAs, applied, Fits, Moves, Ready, AllReady};
+ghost use Rattle.transfer.specs.Private.{Stepped, Onward};
+
+// What became of an element: it was stored, and the next starts here; or it is no register, and nothing was done.
+pub enum Step {
+    Next(usize),
+    Other,
+}
 
 fn put_from(source: Source, store: &mut [u8], base: usize, b: &[u8], from: usize, size: usize)
     requires { ⌜ Fits source base size (length (now store)) × (from + size ≤ length (now b)) ⌝ }
@@ -52,25 +60,49 @@ fn store_other(store: &mut [u8], base: usize, b: &[u8], at: usize) -> usize
     at + 4 + size
 }
 
-// The same; the three ranges of registers come first, by their listed sizes: the next element does not wait for this one's.
-fn store_element(store: &mut [u8], base: usize, b: &[u8], at: usize) -> usize
+// Stores the element at `at` if it is in one of the three ranges of registers, by its listed size: the next element does not wait
+// for this one's.
+fn store_register(store: &mut [u8], base: usize, b: &[u8], at: usize) -> Step
     requires { ⌜ Ready base (now b) at (length (now store)) ⌝ }
-    ensures { λ r. ⌜ (r ≡ nextAt (now (b .entry)) at) × (now (store .exit) ≡ putAs (kindOf (idAt (now (b .entry)) at)) base (valueAt (now (b .entry)) at) (now (store .entry))) ⌝ }
+    ensures { λ r. ⌜ Stepped r base (now (b .entry)) at (now (store .entry)) (now (store .exit)) ⌝ }
 {
     let id = get16(b, at) as usize;
     if within(0x1000, 0x1053, id as u64) {
         copy(b, at + 4, store, base + (40 + 8 * (id - 0x1000)), 8);
-        return at + 12;
+        return Step::Next(at + 12);
     }
     if within(0x3000, 0x303F, id as u64) {
         copy(b, at + 4, store, base + (772 + 16 * (id - 0x3000)), 16);
-        return at + 20;
+        return Step::Next(at + 20);
     }
     if within(0x2000, 0x200E, id as u64) {
         copy(b, at + 4, store, base + (712 + 4 * (id - 0x2000)), 4);
-        return at + 8;
+        return Step::Next(at + 8);
     }
-    store_other(store, base, b, at)
+    Step::Other
+}
+
+// The registers that follow one another from a place on, stored: a loop of their own is short.
+fn store_registers(store: &mut [u8], base: usize, b: &[u8], count: usize, from: Place) -> Place
+    requires { ⌜ AllReady base (now b) (length (now store)) × (count ≡ countOf (now b)) × (from .index ≤ count) × (from .offset ≡ offsetAt (now b) (from .index)) ⌝ }
+    ensures { λ r. ⌜ Onward base (now (b .entry)) count from r (now (store .entry)) (now (store .exit)) ⌝ }
+{
+    let mut at = from.offset;
+    let mut i = from.index;
+    while i < count {
+        let Step::Next(next) = store_register(store, base, b, at) else {
+            return Place {
+                index: i,
+                offset: at,
+            };
+        };
+        at = next;
+        i += 1;
+    }
+    Place {
+        index: i,
+        offset: at,
+    }
 }
 
 // The elements of an accepted buffer, stored in order.
@@ -82,7 +114,22 @@ pub fn apply(store: &mut [u8], base: usize, b: &[u8])
     let mut at = 4;
     let mut i = 0;
     while i < count {
-        at = store_element(store, base, b, at);
-        i += 1;
+        let here = store_registers(
+            store,
+            base,
+            b,
+            count,
+            Place {
+                index: i,
+                offset: at,
+            },
+        );
+        let index = here.index;
+        let offset = here.offset;
+        if count <= index {
+            return;
+        }
+        at = store_other(store, base, b, offset);
+        i = index + 1;
     }
 }

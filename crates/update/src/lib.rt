@@ -1,8 +1,7 @@
-// Guests and vCPUs added to a store and removed from it: live bits, slot words, values zeroed.
+// Guests and vCPUs added to a store: the live bit or the slot word, and values of zeros. `removal` removes them.
 use copying::clear;
 use fields::put_word;
 use fields::set_live;
-use header::slot_word;
 use store::Layout;
 use store::guest_at;
 use store::slot_at;
@@ -10,7 +9,7 @@ ghost use mathlib.Core.Path.{_≡_};
 ghost use Prim.Native.Nat.{_≤_, _<_};
 ghost use lib.ListN.{length};
 ghost use Rattle.store.specs.Layout.{Sound};
-ghost use Rattle.store.specs.Store.{withGuest, withVcpu, dropWord, dropWords, withoutGuest, noWords, noGuests, withoutGuests};
+ghost use Rattle.store.specs.Store.{withGuest, withVcpu};
 
 pub fn with_guest(s: &mut [u8], l: Layout, g: usize)
     requires { ⌜ Sound l × (length (now s) ≡ l .size) × (1 ≤ g) × (g ≤ l .guests) ⌝ }
@@ -26,63 +25,4 @@ pub fn with_vcpu(s: &mut [u8], l: Layout, j: usize, g: usize, v: usize)
 {
     put_word(s, l, j, (l.ids + g) * 2048 + v);
     clear(s, slot_at(l, j), 1820);
-}
-
-fn drop_word(s: &mut [u8], l: Layout, g: usize, a: usize)
-    requires { ⌜ Sound l × (length (now s) ≡ l .size) × (1 ≤ g) × (g ≤ l .guests) × (a < l .slots) ⌝ }
-    ensures { λ _. ⌜ now (s .exit) ≡ dropWord l g a (now (s .entry)) ⌝ }
-{
-    if slot_word(s, l, a) / 2048 != l.ids + g {
-        return;
-    }
-    put_word(s, l, a, 0);
-}
-
-fn drop_words(s: &mut [u8], l: Layout, g: usize)
-    requires { ⌜ Sound l × (length (now s) ≡ l .size) × (1 ≤ g) × (g ≤ l .guests) ⌝ }
-    ensures { λ _. ⌜ now (s .exit) ≡ dropWords l g (l .slots) (now (s .entry)) ⌝ }
-{
-    let mut a = 0;
-    while a < l.slots {
-        drop_word(s, l, g, a);
-        a += 1;
-    }
-}
-
-pub fn without_guest(s: &mut [u8], l: Layout, g: usize)
-    requires { ⌜ Sound l × (length (now s) ≡ l .size) × (1 ≤ g) × (g ≤ l .guests) ⌝ }
-    ensures { λ _. ⌜ now (s .exit) ≡ withoutGuest l (now (s .entry)) g ⌝ }
-{
-    drop_words(s, l, g);
-    set_live(s, l, g, 0);
-}
-
-fn no_words(s: &mut [u8], l: Layout)
-    requires { ⌜ Sound l × (length (now s) ≡ l .size) ⌝ }
-    ensures { λ _. ⌜ now (s .exit) ≡ noWords l (l .slots) (now (s .entry)) ⌝ }
-{
-    let mut a = 0;
-    while a < l.slots {
-        put_word(s, l, a, 0);
-        a += 1;
-    }
-}
-
-fn no_guests(s: &mut [u8], l: Layout)
-    requires { ⌜ Sound l × (length (now s) ≡ l .size) ⌝ }
-    ensures { λ _. ⌜ now (s .exit) ≡ noGuests (l .guests) (now (s .entry)) ⌝ }
-{
-    let mut g = 0;
-    while g < l.guests {
-        set_live(s, l, g + 1, 0);
-        g += 1;
-    }
-}
-
-pub fn without_guests(s: &mut [u8], l: Layout)
-    requires { ⌜ Sound l × (length (now s) ≡ l .size) ⌝ }
-    ensures { λ _. ⌜ now (s .exit) ≡ withoutGuests l (now (s .entry)) ⌝ }
-{
-    no_words(s, l);
-    no_guests(s, l);
 }

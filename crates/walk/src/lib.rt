@@ -94,6 +94,7 @@ pub fn first_bad(b: &[u8], k: Context) -> Walked
     ensures { λ r. ⌜ r ≡ firstBad k (now (b .entry)) ⌝ }
 {
     let count = get32(b, 0) as usize;
+    // Nothing is counted, as in most runs: the shortest way out.
     if count == 0 {
         return Walked::Done;
     }

@@ -2,7 +2,7 @@
 use Rattle.gsb.specs.Walk.{offsetAt}
 use Rattle.gsb.proofs.Walks.{offset-start}
 use Rattle.transfer.specs.Transfer.{applied}
-use Rattle.transfer.proofs.Moving.{ready-at, apply-start, apply-turn, apply-end, next-turn}
+use Rattle.transfer.proofs.Moving.{ready-all, ready-onward, apply-start, apply-end, onward-end, onward-turn, onward-place}
 use Prim.Native.Nat.{_-_, _≤_}
 use lib.ListN.{length}
 use mathlib.Core.Path.{_≡_, refl}
@@ -25,8 +25,18 @@ cast-count c = search needs
 loop-holds : tie.Need-loop-holds Inv-loop μ-loop
 loop-holds c = (search needs, offset-start _, refl, apply-start _ _ _)
 
-store-element-requires : tie.Need-store-element-requires Inv-loop μ-loop
-store-element-requires c κs = search (needs, ready-at)
+store-registers-requires : tie.Need-store-registers-requires Inv-loop μ-loop
+store-registers-requires c κs = (search (needs, ready-all), search needs, search needs, search needs)
+
+same-length : tie.Need-same-length Inv-loop μ-loop
+same-length c = search needs
+
+returns : tie.Need-returns Inv-loop μ-loop
+returns c = search (needs, onward-end)
+
+store-other-requires : tie.Need-store-other-requires Inv-loop μ-loop
+store-other-requires c κs =
+    ready-onward _ _ _ _ _ _ _ _ _ (c .before .before .before .before .before .before .before .before .before .before .before .pre) (search needs) (search needs) (c .before .before .before .before .store-registers .ensures) (search needs)
 
 add-i : tie.Need-add-i Inv-loop μ-loop
 add-i c = search needs
@@ -35,13 +45,13 @@ loop-less : tie.Need-loop-less Inv-loop μ-loop
 loop-less c = search needs
 
 loop-again : tie.Need-loop-again Inv-loop μ-loop
-loop-again c = (search needs, search (needs, next-turn), search needs, search (needs, apply-turn))
+loop-again c = (search needs, search (needs, onward-place), search needs, search (needs, onward-turn))
 
-same-length : tie.Need-same-length Inv-loop μ-loop
-same-length c = search needs
+same-length-2 : tie.Need-same-length-2 Inv-loop μ-loop
+same-length-2 c = search needs
 
-returns : tie.Need-returns Inv-loop μ-loop
-returns c = search (needs, apply-end)
+returns-2 : tie.Need-returns-2 Inv-loop μ-loop
+returns-2 c = search (needs, apply-end)
 
 pub apply-spec : {M : Type 1} → statement M
 apply-spec =
@@ -52,9 +62,12 @@ apply-spec =
     get32-requires
     cast-count
     loop-holds
-    store-element-requires
+    store-registers-requires
+    same-length
+    returns
+    store-other-requires
     add-i
     loop-less
     loop-again
-    same-length
-    returns)
+    same-length-2
+    returns-2)

@@ -1,8 +1,8 @@
 -- The words, then the live bits: `all-deleted`.
 use Rattle.store.proofs.Writes.{all-deleted}
 use borrow.Author.Needs.{needs}
-use Rattle.update.proofs.without_guests.Statement.{statement}
-use Rattle.update.proofs.without_guests.Tie as tie
+use Rattle.removal.proofs.without_guests.Statement.{statement}
+use Rattle.removal.proofs.without_guests.Tie as tie
 
 no-words-requires : tie.Need-no-words-requires
 no-words-requires c κs = search needs

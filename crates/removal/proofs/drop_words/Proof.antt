@@ -5,8 +5,8 @@ use Prim.Native.Nat.{_-_, _≤_}
 use lib.ListN.{length}
 use mathlib.Core.Path.{_≡_, refl}
 use borrow.Author.Needs.{needs}
-use Rattle.update.proofs.drop_words.Statement.{statement}
-use Rattle.update.proofs.drop_words.Tie as tie
+use Rattle.removal.proofs.drop_words.Statement.{statement}
+use Rattle.removal.proofs.drop_words.Tie as tie
 
 abbrev Inv-loop : tie.InvT-loop
 Inv-loop s₀ l g a₀ s a = (a ≤ l .slots) × (length s ≡ length s₀) × (s ≡ dropWords l g a s₀)

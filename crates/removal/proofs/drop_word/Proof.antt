@@ -1,8 +1,8 @@
 -- By the guest that the word names.
 use Rattle.store.proofs.Writes.{drop-not, drop-it}
 use borrow.Author.Needs.{needs}
-use Rattle.update.proofs.drop_word.Statement.{statement}
-use Rattle.update.proofs.drop_word.Tie as tie
+use Rattle.removal.proofs.drop_word.Statement.{statement}
+use Rattle.removal.proofs.drop_word.Tie as tie
 
 slot-word-requires : tie.Need-slot-word-requires
 slot-word-requires c κs = search needs

@@ -1,8 +1,8 @@
 -- The words, then the live bit: `deleted`.
 use Rattle.store.proofs.Writes.{deleted}
 use borrow.Author.Needs.{needs}
-use Rattle.update.proofs.without_guest.Statement.{statement}
-use Rattle.update.proofs.without_guest.Tie as tie
+use Rattle.removal.proofs.without_guest.Statement.{statement}
+use Rattle.removal.proofs.without_guest.Tie as tie
 
 drop-words-requires : tie.Need-drop-words-requires
 drop-words-requires c κs = search needs

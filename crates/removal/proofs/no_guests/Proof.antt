@@ -5,8 +5,8 @@ use Prim.Native.Nat.{_-_, _≤_}
 use lib.ListN.{length}
 use mathlib.Core.Path.{_≡_, refl}
 use borrow.Author.Needs.{needs}
-use Rattle.update.proofs.no_guests.Statement.{statement}
-use Rattle.update.proofs.no_guests.Tie as tie
+use Rattle.removal.proofs.no_guests.Statement.{statement}
+use Rattle.removal.proofs.no_guests.Tie as tie
 
 abbrev Inv-loop : tie.InvT-loop
 Inv-loop s₀ l g₀ s g = (g ≤ l .guests) × (length s ≡ length s₀) × (s ≡ noGuests g s₀)

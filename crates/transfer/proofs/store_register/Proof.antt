@@ -2,8 +2,8 @@
 use native.Mathlib.Omega.{arith}
 use borrow.Author.Needs.{needs}
 use Rattle.transfer.proofs.Registers.{within-low, double-room, double-inside, double-next, double-stored, vector-room, vector-inside, vector-next, vector-stored, word-room, word-inside, word-next, word-stored}
-use Rattle.transfer.proofs.store_element.Statement.{statement}
-use Rattle.transfer.proofs.store_element.Tie as tie
+use Rattle.transfer.proofs.store_register.Statement.{statement}
+use Rattle.transfer.proofs.store_register.Tie as tie
 
 get16-requires : tie.Need-get16-requires
 get16-requires c κs = search needs
@@ -32,8 +32,8 @@ add-copy-3 c = omega (arith, double-room _ _ _ _ _ _ (c .before .before .before 
 copy-requires : tie.Need-copy-requires
 copy-requires c κs = (search (needs, double-inside), search (needs, double-room))
 
-add-result : tie.Need-add-result
-add-result c = search needs
+add-t10 : tie.Need-add-t10
+add-t10 c = search needs
 
 same-length : tie.Need-same-length
 same-length c = search needs
@@ -62,8 +62,8 @@ add-copy-6 c = omega (arith, vector-room _ _ _ _ _ _ (c .before .before .before 
 copy-requires-2 : tie.Need-copy-requires-2
 copy-requires-2 c κs = (search (needs, vector-inside), search (needs, vector-room))
 
-add-result-2 : tie.Need-add-result-2
-add-result-2 c = search needs
+add-t19 : tie.Need-add-t19
+add-t19 c = search needs
 
 same-length-2 : tie.Need-same-length-2
 same-length-2 c = search needs
@@ -92,8 +92,8 @@ add-copy-9 c = omega (arith, word-room _ _ _ _ _ _ (c .before .before .before .b
 copy-requires-3 : tie.Need-copy-requires-3
 copy-requires-3 c κs = (search (needs, word-inside), search (needs, word-room))
 
-add-result-3 : tie.Need-add-result-3
-add-result-3 c = search needs
+add-t28 : tie.Need-add-t28
+add-t28 c = search needs
 
 same-length-3 : tie.Need-same-length-3
 same-length-3 c = search needs
@@ -101,17 +101,11 @@ same-length-3 c = search needs
 returns-3 : tie.Need-returns-3
 returns-3 c = (search (needs, word-next), search (needs, word-stored))
 
-store-other-requires : tie.Need-store-other-requires
-store-other-requires c κs = search needs
-
-same-length-4 : tie.Need-same-length-4
-same-length-4 c = search needs
-
 returns-4 : tie.Need-returns-4
 returns-4 c = search needs
 
-pub store-element-spec : {M : Type 1} → statement M
-store-element-spec =
+pub store-register-spec : {M : Type 1} → statement M
+store-register-spec =
     tie.close
     (tie.spec
     get16-requires
@@ -123,7 +117,7 @@ store-element-spec =
     add-copy-2
     add-copy-3
     copy-requires
-    add-result
+    add-t10
     same-length
     returns
     within-requires-2
@@ -133,7 +127,7 @@ store-element-spec =
     add-copy-5
     add-copy-6
     copy-requires-2
-    add-result-2
+    add-t19
     same-length-2
     returns-2
     within-requires-3
@@ -143,9 +137,7 @@ store-element-spec =
     add-copy-8
     add-copy-9
     copy-requires-3
-    add-result-3
+    add-t28
     same-length-3
     returns-3
-    store-other-requires
-    same-length-4
     returns-4)
