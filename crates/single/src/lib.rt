@@ -18,7 +18,7 @@ ghost use Rattle.elements.specs.Table.{kindOf, numberOf, threadElement};
 ghost use Rattle.rules.specs.Rules.{permits};
 ghost use Rattle.state.specs.State.{gotElement};
 
-// Guest-wide.
+// The flag that get state supports.
 const BIT_0: u64 = 0x8000_0000_0000_0000;
 
 // H_GUEST_GET_STATE with a buffer of one element, for the L1 cache: the value comes straight from the slot.

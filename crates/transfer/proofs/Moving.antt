@@ -205,9 +205,6 @@ module _ (base : ℕ) (b : List ℕ) (count : ℕ) (from : Place) (s : List ℕ)
   abbrev pub Since : ℕ → List ℕ → Type 0
   Since i t = (u : List ℕ) → s ≡ applied base b (from .index) u → t ≡ applied base b i u
 
-  pub since-start : Since (from .index) s
-  since-start u e = e
-
   step-of : (at next : ℕ) (v : Step) (t w : List ℕ) → Stepped v base b at t w → v ≡ Next next → Stepped (Next next) base b at t w
   step-of at next v t w h e = subst (λ (x : Step). Stepped x base b at t w) e h
 
@@ -232,9 +229,6 @@ module _ (base : ℕ) (b : List ℕ) (count : ℕ) (from to : Place) (s t u : Li
 
   pub onward-turn : (v : List ℕ) → v ≡ putAs (kindOf (idAt b (to .offset))) base (valueAt b (to .offset)) u → v ≡ applied base b (to .index + 1) s
   onward-turn v h = apply-turn base b s (to .index) (to .offset) u v (o .stored s e) (o .place) h
-
-  pub onward-length : length u ≡ length s
-  onward-length = ap length (o .stored s e) ∙ length-applied base b s (to .index)
 
 pub onward-place : (base : ℕ) (b : List ℕ) (count : ℕ) (from to : Place) (t u : List ℕ) (r : ℕ) → Onward base b count from to t u → r ≡ nextAt b (to .offset)
     → r ≡ offsetAt b (to .index + 1)

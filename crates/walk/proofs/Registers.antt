@@ -121,16 +121,16 @@ module _ (b : List ℕ) (count room : ℕ) (from : Place) where
   pub left-start : Left (from .index) (from .offset)
   left-start k u = refl
 
-  hasty-of : (i at next : ℕ) (v : Verdict) → Hasty v room b at → v ≡ Good next → Hasty (Good next) room b at
-  hasty-of i at next v h e = subst (λ (x : Verdict). Hasty x room b at) e h
+  hasty-of : (at next : ℕ) (v : Verdict) → Hasty v room b at → v ≡ Good next → Hasty (Good next) room b at
+  hasty-of at next v h e = subst (λ (x : Verdict). Hasty x room b at) e h
 
   pub left-next : (i at next : ℕ) (v : Verdict) → Left i at → i < count → Hasty v room b at → v ≡ Good next → Left (i + 1) next
   left-next i at next v f h y e k u =
       turn-good (judged k b) count i at (walk (judged k b) (count - from .index) (from .index) (from .offset)) (Good next) next (f k u) h
-      (hasty-of i at next v y e .1 k u) refl
+      (hasty-of at next v y e .1 k u) refl
 
-  pub left-inside : (i at next : ℕ) (v : Verdict) → Hasty v room b at → v ≡ Good next → next ≤ length b
-  left-inside i at next v y e = hasty-of i at next v y e .0
+  pub left-inside : (at next : ℕ) (v : Verdict) → Hasty v room b at → v ≡ Good next → next ≤ length b
+  left-inside at next v y e = hasty-of at next v y e .0
 
   pub skipped : (i at : ℕ) → from .index ≤ i → i ≤ count → at ≤ length b → Left i at → Skipped b count room from (record { index = i; offset = at })
   skipped i at o h l f = record { onward = o; upto = h; inside = l; same = f }

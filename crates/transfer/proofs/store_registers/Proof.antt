@@ -1,6 +1,6 @@
 -- The loop has stored the elements from the first place to i: the laws `since-..` of Moving.
 use Rattle.gsb.specs.Walk.{offsetAt}
-use Rattle.transfer.proofs.Moving.{ready-at, Since, since-start, since-next, since-place, since-length, other-same, moved-on}
+use Rattle.transfer.proofs.Moving.{ready-at, Since, since-next, since-place, since-length, other-same, moved-on}
 use Prim.Native.Nat.{_-_, _≤_}
 use lib.ListN.{length}
 use mathlib.Core.Path.{_≡_, refl}
