@@ -8,7 +8,7 @@ use Rattle.answer.specs.declared.Call.the-variants.{RunVcpu, Lookup}
 use Rattle.answer.specs.declared.Registers.{Registers}
 use Rattle.answer.specs.Answer.{told}
 use Rattle.admission.specs.Refusals.{Outcome}
-use Rattle.lookup.specs.declared.Found.{Found as Looked}
+use Rattle.gsb.specs.declared.finding.Found.{Found as Looked}
 use Rattle.adderknot.specs.declared.Found.{Found}
 use Rattle.adderknot.specs.Entries.{Left, tells, leaves, Filled, fills, Ran, runs, foundAt}
 

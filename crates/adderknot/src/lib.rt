@@ -7,7 +7,7 @@ ghost use mathlib.Core.Path.{_≡_};
 ghost use Rattle.answer.specs.declared.Call.{Call};
 ghost use Rattle.answer.specs.Answer.{told};
 ghost use Rattle.store.specs.Layout.{small};
-ghost use Rattle.lookup.specs.Lookup.{lookedUp};
+ghost use Rattle.gsb.specs.Lookup.{lookedUp};
 ghost use Rattle.state.specs.State.{getState, setState};
 ghost use Rattle.run.specs.Run.{runVcpu};
 ghost use Rattle.guests.specs.Guests.{createGuest, createVcpu, deleteGuest};
@@ -51,7 +51,7 @@ pub extern "C" fn adk_create_vcpu(store: &mut [u8], flags: u64, guest: u64, vcpu
 {
     registers_of(
         Call::CreateVcpu,
-        vcpus::create_vcpu(store, flags, guest, vcpu),
+        guests::create_vcpu(store, flags, guest, vcpu),
     )
 }
 
@@ -102,7 +102,7 @@ pub extern "C" fn adk_run_vcpu(
 {
     registers_of(
         Call::RunVcpu,
-        entry::run_vcpu(
+        run::run_vcpu(
             store,
             flags,
             guest,
@@ -143,7 +143,7 @@ pub struct Found {
 pub extern "C" fn adk_lookup(buffer: &[u8], id: u16) -> Found
     ensures { λ r. ⌜ r ≡ foundAt (lookedUp (now (buffer .entry)) id) ⌝ }
 {
-    let found = lookup::lookup(buffer, id);
+    let found = gsb::lookup(buffer, id);
     let answer = found.answer;
     let told = registers_of(Call::Lookup, answer);
     Found {

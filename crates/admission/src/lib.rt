@@ -1,13 +1,13 @@
 // The tests that the calls begin with, before a buffer is looked at: the store, the flags, the guest and the vCPU.
 // Apart from the calls, since all of them share it.
 use answer::Fault;
-use formed::well_formed;
-use header::is_live;
-use slots::slot_of;
 use store::Layout;
 use store::guest_at;
+use store::is_live;
 use store::slot_at;
+use store::slot_of;
 use store::small_layout;
+use store::well_formed;
 ghost use mathlib.Core.Path.{_≡_};
 ghost use Prim.Native.Nat.{_<_};
 ghost use lib.ListN.{length};

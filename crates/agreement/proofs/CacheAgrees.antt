@@ -9,7 +9,7 @@ use Rattle.store.specs.Layout.{Sound, small}
 use Rattle.store.specs.Header.{header, slotOf}
 use Rattle.store.proofs.Small.{sound-small}
 use Rattle.run.specs.Run.{inputSize, outputSize}
-use Rattle.marks.specs.Marks.{Cache}
+use Rattle.l1.specs.Marks.{Cache}
 use Rattle.agreement.specs.Agree.{Op, Write, Read, Run, Other, Cached, cachedTurn, plainTurn, since, Agree, Allowed, Start}
 use Rattle.agreement.proofs.Ours.{Ours, ours-base}
 use Rattle.agreement.proofs.Invariant.{Inv, Goes, write-turn}

@@ -15,7 +15,7 @@ use Rattle.elements.specs.Table.{numberOf, threadElement}
 use Rattle.store.specs.Search.{every}
 use Rattle.store.proofs.Search.{every-all}
 use Rattle.exits.specs.Exits.{elementOf, valued}
-use Rattle.marks.specs.Marks.{Cache, withMark, valid, changed, isInput, markGood, goodCache}
+use Rattle.l1.specs.Marks.{Cache, withMark, valid, changed, isInput, markGood, goodCache}
 use Rattle.l1.specs.Cache.{change, keep, chosen, pending}
 use Rattle.agreement.specs.Agree.{newest, inOrder}
 use Rattle.agreement.proofs.MarkLaws.{mark-same, mark-other, length-mark, word-below}

@@ -19,7 +19,7 @@ use Rattle.store.specs.Header.{header, capabilitiesOf, live, word, wordOf, isUs
 use Rattle.store.specs.Store.{wellFormed, fresh}
 use Rattle.store.proofs.Search.{every-at, no-bool}
 use Rattle.admission.specs.Target.{baseOf}
-use Rattle.marks.specs.Marks.{Cache, isMarked, changed, isInput, markGood, goodCache}
+use Rattle.l1.specs.Marks.{Cache, isMarked, changed, isInput, markGood, goodCache}
 use Rattle.l1.specs.Cache.{pending}
 use Rattle.agreement.specs.Agree.{Start}
 use Rattle.agreement.proofs.Flush.{all-changed}

@@ -21,7 +21,7 @@ use Rattle.transfer.specs.Transfer.{applied}
 use Rattle.transfer.proofs.Messages.{placeAll, place-nil, place-cons, applied-message, thread-numbered}
 use Rattle.exits.specs.Exits.{weigh, valued}
 use Rattle.exits.proofs.Written.{length-valued}
-use Rattle.marks.specs.Marks.{Cache, changed, isInput}
+use Rattle.l1.specs.Marks.{Cache, changed, isInput}
 use Rattle.l1.specs.Cache.{chosen, pending}
 use Rattle.agreement.specs.Agree.{newest, inOrder, elementsIn, Holds}
 use Rattle.l1.proofs.Sent.{fit-append, fit-wire, fit-good, Fit}

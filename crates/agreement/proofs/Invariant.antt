@@ -21,7 +21,7 @@ use Rattle.store.proofs.Search.{no-bool}
 use Rattle.exits.specs.Exits.{elementOf}
 use Rattle.admission.specs.Refusals.{Outcome, success, refusal, accept, refuse}
 use Rattle.run.specs.Run.{inputSize, outputSize}
-use Rattle.marks.specs.Marks.{Cache, valid, changed, isInput, isSpecial, goodCache}
+use Rattle.l1.specs.Marks.{Cache, valid, changed, isInput, isSpecial, goodCache}
 use Rattle.l1.specs.Cache.{first, Wrote, change, writeCache, keep}
 use Rattle.agreement.specs.Plain.{writePlain}
 use Rattle.agreement.specs.Agree.{Op, Write, seen, Turn, Cached, cachedTurn, plainTurn, since, newest, Same, registeredInput}

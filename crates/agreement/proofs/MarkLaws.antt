@@ -14,7 +14,7 @@ use lib.Pow.{pow-add, pow-lt, pow-pos, shl-shr}
 use lib.Bits.{bitOr, or-shr, or-mod}
 use borrow.Author.Tests.{eq-eqb}
 use Rattle.octets.specs.Bytes.{zeros}
-use Rattle.marks.specs.Marks.{isMarked, withMark}
+use Rattle.l1.specs.Marks.{isMarked, withMark}
 
 -- ---- the digits of a power of two, and of a number with one of them set
 pow-same : (k : ℕ) → 2 ^ k / 2 ^ k % 2 ≡ 1

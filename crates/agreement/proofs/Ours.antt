@@ -20,7 +20,7 @@ use Rattle.exits.specs.Exits.{elementOf}
 use Rattle.admission.specs.Refusals.{bit0, Passed}
 use Rattle.admission.specs.Target.{targetTests, baseOf}
 use Rattle.run.specs.Run.{inputSize, outputSize}
-use Rattle.marks.specs.Marks.{isInput}
+use Rattle.l1.specs.Marks.{isInput}
 use Rattle.l1.proofs.Cells.{Named, named-end, input-behind, valueOf}
 use Rattle.l1.proofs.Sent.{Fit}
 use Rattle.agreement.proofs.Writes.{placed, back, back-keeps}

@@ -21,7 +21,7 @@ use Rattle.transfer.specs.Transfer.{filled}
 use Rattle.exits.specs.Exits.{elementOf}
 use Rattle.admission.specs.Refusals.{Outcome, success, refusal, refuse}
 use Rattle.state.specs.State.{fillWith, getState}
-use Rattle.marks.specs.Marks.{valid, isReadable, isSpecial}
+use Rattle.l1.specs.Marks.{valid, isReadable, isSpecial}
 use Rattle.l1.specs.Cache.{first, Got, keep, one, valueIn, fetched, readCache}
 use Rattle.agreement.specs.Plain.{readPlain}
 use Rattle.agreement.specs.Agree.{Read, Seen, seen, Turn, Cached, cachedTurn, plainTurn, since}

@@ -19,7 +19,7 @@ use Rattle.transfer.proofs.Messages.{placeAll, place-nil, place-cons, applied-m
 use Rattle.exits.specs.Exits.{elementOf, valued}
 use Rattle.exits.proofs.Written.{length-valued}
 use Rattle.run.specs.Run.{inputSize, outputSize}
-use Rattle.marks.specs.Marks.{Cache, withMark, changed}
+use Rattle.l1.specs.Marks.{Cache, withMark, changed}
 use Rattle.l1.specs.Cache.{keep, marked, refreshed}
 use Rattle.agreement.specs.Agree.{Cached, newest}
 use Rattle.agreement.proofs.MarkLaws.{mark-none}

@@ -40,7 +40,7 @@ use Rattle.admission.proofs.Judging.{begin-refused, begin-admitted, all-refused
 use Rattle.promises.proofs.Kept.{applied-header, applied-kept}
 use Rattle.promises.proofs.Lowest.{Real}
 use Rattle.promises.proofs.Told.{none-told}
-use Rattle.marks.specs.Marks.{Cache}
+use Rattle.l1.specs.Marks.{Cache}
 use Rattle.l1.specs.Cache.{pending, refreshed, Ran, ranWith, runCache}
 use Rattle.agreement.specs.Plain.{runPlain}
 use Rattle.agreement.specs.Agree.{Op, Run, seen, Turn, Cached, cachedTurn, plainTurn, since, inOrder, Holds, registeredInput}

@@ -30,7 +30,7 @@ use Rattle.admission.specs.Refusals.{accept, refuse, decide, bit0}
 use Rattle.admission.specs.Target.{targetTests, baseOf}
 use Rattle.state.specs.State.{contextOf, isStopped, faultOf, bufferTests, setState, fillWith, getState}
 use Rattle.promises.proofs.States.{skip}
-use Rattle.marks.specs.Marks.{allowed, isInput, isReadable, isSpecial}
+use Rattle.l1.specs.Marks.{allowed, isInput, isReadable, isSpecial}
 use Rattle.l1.specs.Cache.{first, one, valueIn}
 use Rattle.agreement.specs.Plain.{writePlain, readPlain}
 use Rattle.l1.proofs.Cells.{element-size, element-place, named-end, named-fits, allowed-as, set-as-input, get-as-readable, input-named, readable-named, valueOf}

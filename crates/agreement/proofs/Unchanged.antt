@@ -24,7 +24,7 @@ use Rattle.l0.specs.Calls.{GetState, outcome}
 use Rattle.promises.specs.Promised.{Unchanged}
 use Rattle.promises.proofs.Kept.{refused-unchanged}
 use Rattle.promises.proofs.Told.{none-told}
-use Rattle.marks.specs.Marks.{Cache, valid, isInput, isReadable, goodCache}
+use Rattle.l1.specs.Marks.{Cache, valid, isInput, isReadable, goodCache}
 use Rattle.l1.specs.Cache.{valueTests, Wrote, change, writeCache, Got, keep, one, valueIn, fetched, readCache, pending, Ran, ranWith, runCache}
 use Rattle.l1.proofs.Running.{passed-judged, run-accepted}
 use Rattle.agreement.specs.Refused.{Unread, Unrun}

@@ -16,7 +16,7 @@ use Rattle.elements.specs.Table.{numberOf, threadElement}
 use Rattle.gsb.specs.Message.{elementBytes, elementsBytes}
 use Rattle.gsb.proofs.Messages.{length-element, elements-append}
 use Rattle.exits.specs.Exits.{elementOf}
-use Rattle.marks.specs.Marks.{isInput}
+use Rattle.l1.specs.Marks.{isInput}
 use Rattle.agreement.specs.Agree.{newest, inOrder}
 use Rattle.l1.proofs.Sent.{Fit}
 use Rattle.l1.proofs.Cells.{Named, number-back, named-number, named-back, input-named, places-apart, valueOf, value-other, weight}

@@ -23,7 +23,7 @@ use Rattle.run.specs.Run.{inputSize, outputSize}
 use Rattle.l0.specs.Calls.{Call, outcome}
 use Rattle.promises.specs.History.{registers}
 use Rattle.promises.specs.Apart.{Elsewhere}
-use Rattle.marks.specs.Marks.{Cache}
+use Rattle.l1.specs.Marks.{Cache}
 use Rattle.l1.specs.Cache.{valueIn, writeCache, readCache, runCache}
 use Rattle.agreement.specs.Plain.{writePlain, readPlain, runPlain}
 

@@ -12,7 +12,7 @@ use Rattle.store.specs.declared.Layout.{Layout}
 use Rattle.admission.specs.Refusals.{Outcome, decide}
 use Rattle.state.specs.State.{getState, setState}
 use Rattle.run.specs.Run.{runVcpu}
-use Rattle.marks.specs.Marks.{isSpecial}
+use Rattle.l1.specs.Marks.{isSpecial}
 use Rattle.l1.specs.Cache.{first, one}
 
 -- "Write and read: 5 over 65,528 bytes; 6 for the NOP, 0x0C00 and 0x0C01;"

@@ -3,7 +3,7 @@ use mathlib.Core.Path.{_≡_}
 use mathlib.Core.List.{List}
 use Prim.Native.Nat.{ℕ}
 use Rattle.answer.specs.declared.Fault.the-variants.{None}
-use Rattle.marks.specs.Marks.{Cache}
+use Rattle.l1.specs.Marks.{Cache}
 use Rattle.l1.specs.Cache.{Got, Ran}
 
 -- a read into the value buffer v

@@ -48,7 +48,7 @@ fn run(store: &mut [u8], values: &mut [u8], marks: &mut [u64], x: u64, seen: See
     let mut output = [byte; 128];
     let told = registers_of(
         Call::CacheRun,
-        flush::run(
+        l1::run(
             store,
             values,
             marks,

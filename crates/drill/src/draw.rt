@@ -1,8 +1,8 @@
 // What the operations are made of, drawn from one row of numbers: each night is the same, and both L1s are given the same.
-use numbers::number_of;
-use numbers::thread_element;
-use writing::put16;
-use writing::put32;
+use elements::number_of;
+use elements::thread_element;
+use octets::put16;
+use octets::put32;
 ghost use mathlib.Core.Path.{_≡_};
 ghost use Prim.Native.Nat.{_≤_};
 ghost use lib.ListN.{length};

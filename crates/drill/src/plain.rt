@@ -81,7 +81,7 @@ fn run(store: &mut [u8], x: u64, digest: u64) -> u64 {
     let mut output = [a_byte(x); 128];
     let told = registers_of(
         Call::RunVcpu,
-        entry::run_vcpu(store, 0, 1, 0, &input, &mut output, &b[0..end], an_exit(x)),
+        run::run_vcpu(store, 0, 1, 0, &input, &mut output, &b[0..end], an_exit(x)),
     );
     mix_run(digest, told, &output, store)
 }

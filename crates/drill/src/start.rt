@@ -1,7 +1,7 @@
 // A store with vCPU 0 of guests 1 and 2; the first has both run buffers registered.
 fn create(store: &mut [u8], guest: u64) {
     guests::create_guest(store, 0, 0xFFFF_FFFF_FFFF_FFFF);
-    vcpus::create_vcpu(store, 0, guest, 0);
+    guests::create_vcpu(store, 0, guest, 0);
 }
 
 // Two elements of 16 bytes, address and length: 0C00, the input, with the 2,424 bytes (0978) that all 164 elements need; 0C01, the output,

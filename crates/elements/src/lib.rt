@@ -1,7 +1,12 @@
 // The elements of a guest state buffer: the one constant table, and the types in which it is told what an ID is.
 // `kinds` tells it of an ID and of a number, `rules` what a call may do with an element.
+mod kinds;
+mod numbers;
 mod rows;
 
+pub use kinds::kind_of;
+pub use numbers::number_of;
+pub use numbers::thread_element;
 pub use rows::row_at;
 
 pub enum Access {

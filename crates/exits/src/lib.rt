@@ -1,9 +1,9 @@
 // The exits of a run: the one constant table of which elements each returns, and the output that they make.
+use elements::number_of;
+use elements::thread_element;
 use gsb::put_element;
-use numbers::number_of;
-use numbers::thread_element;
+use octets::put32;
 use rules::within;
-use writing::put32;
 ghost use mathlib.Core.Path.{_≡_};
 ghost use mathlib.Core.Bool.{true};
 ghost use Prim.Native.Nat.{_+_, _≤_, _<_, _^_};

@@ -4,3 +4,5 @@ pub mod Walks
 pub mod First
 pub mod Messages
 pub mod RoundTrip
+mod Registers
+pub mod Lookups

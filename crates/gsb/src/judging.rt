@@ -1,13 +1,13 @@
 // The length of a buffer, and one element judged.
 use super::Verdict;
 use answer::Bad;
-use kinds::kind_of;
-use reading::get16;
-use reading::get32;
+use elements::kind_of;
+use octets::get16;
+use octets::get32;
 use rules::Context;
+use rules::good_value;
 use rules::permitted;
 use rules::right_size;
-use values::good_value;
 ghost use mathlib.Core.Path.{_≡_};
 ghost use Prim.Native.Nat.{_+_, _≤_, _<_};
 ghost use lib.ListN.{length};

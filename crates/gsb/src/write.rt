@@ -1,6 +1,6 @@
 // An element written: its header and its value, which stands in another slice.
-use copying::copy;
-use writing::put16;
+use octets::copy;
+use octets::put16;
 ghost use mathlib.Core.Path.{_≡_};
 ghost use Prim.Native.Nat.{_+_, _≤_, _<_, _^_};
 ghost use lib.ListN.{length};

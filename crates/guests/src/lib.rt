@@ -1,16 +1,19 @@
 // Guests created and deleted. `vcpus` creates vCPUs; what the three mean is defined here.
+mod vcpus;
+
 use admission::Admission;
 use admission::admit;
 use answer::Answer;
 use answer::Fault;
 use answer::refusal;
 use answer::success;
-use header::is_live;
-use removal::without_guest;
-use removal::without_guests;
-use slots::free_guest;
+use store::free_guest;
+use store::is_live;
 use store::small_layout;
-use update::with_guest;
+use store::with_guest;
+use store::without_guest;
+use store::without_guests;
+pub use vcpus::create_vcpu;
 ghost use mathlib.Core.Path.{_≡_};
 ghost use mathlib.Core.List.{[]};
 ghost use Rattle.store.specs.Layout.{small};

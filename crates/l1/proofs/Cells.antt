@@ -26,7 +26,7 @@ use Rattle.rules.proofs.Rules.{permits-cases, allows-scope}
 use Rattle.store.specs.Search.{every}
 use Rattle.store.proofs.Search.{no-bool, both, every-at}
 use Rattle.exits.specs.Exits.{elementOf}
-use Rattle.marks.specs.Marks.{allowed, isInput, isSpecial, isReadable}
+use Rattle.l1.specs.Marks.{allowed, isInput, isSpecial, isReadable}
 
 -- ---- an ID that names a thread element
 pub record Named (id : ℕ) : Type 0 where

@@ -6,3 +6,6 @@ pub mod Cells
 pub mod Sent
 pub mod Returned
 pub mod Running
+pub mod Marking
+pub mod Words
+mod Clearing

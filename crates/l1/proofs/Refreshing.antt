@@ -11,7 +11,7 @@ use Rattle.gsb.specs.Walk.{countOf, idAt, sizeAt, offsetAt}
 use Rattle.gsb.proofs.Walks.{offset-next}
 use Rattle.transfer.specs.Transfer.{applied, Ready, AllReady}
 use Rattle.transfer.proofs.Moving.{ready-at}
-use Rattle.marks.specs.Marks.{Cache, withMark}
+use Rattle.l1.specs.Marks.{Cache, withMark}
 use Rattle.l1.specs.Cache.{marked, refreshed}
 use Rattle.l1.proofs.Values.{few}
 

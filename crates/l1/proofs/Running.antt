@@ -38,10 +38,10 @@ use Rattle.state.specs.State.{contextOf, isStopped, faultOf}
 use Rattle.run.specs.Run.{inputSize, exitTests, spotTests, inputOf, contentTests, cachedTests, cachedGood, ranStore, ran, runVcpu}
 use Rattle.admission.proofs.Judging.{begin-admitted, all-refused, all-admitted, judged-passed}
 use Rattle.run.proofs.Runs.{Spotted, spotted}
-use Rattle.marks.specs.Marks.{Cache, valid, changed, isInput, markGood, goodCache}
+use Rattle.l1.specs.Marks.{Cache, valid, changed, isInput, markGood, goodCache}
 use Rattle.l1.specs.Cache.{chosen, pending, refreshed, Ran, ranWith, runCache}
-use Rattle.marks.specs.Private.{isChanged}
-use Rattle.marks.proofs.Marking.{values-long, marks-long}
+use Rattle.l1.specs.MarksPrivate.{isChanged}
+use Rattle.l1.proofs.Marking.{values-long, marks-long}
 use Rattle.l1.proofs.Pending.{weighed}
 use Rattle.l1.proofs.Cells.{number-named, length-value}
 use Rattle.l1.proofs.Sent.{Fit, fit-append, fit-good}

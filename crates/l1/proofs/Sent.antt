@@ -14,7 +14,7 @@ use Rattle.gsb.specs.Walk.{firstBad}
 use Rattle.gsb.specs.Message.{message}
 use Rattle.gsb.proofs.RoundTrip.{Begins, idIn, valueIn, Wire, wire-nil, wire-cons, listed-fits, input-good}
 use Rattle.exits.specs.Exits.{elementOf}
-use Rattle.marks.specs.Marks.{allowed, isInput}
+use Rattle.l1.specs.Marks.{allowed, isInput}
 use Rattle.l1.proofs.Cells.{element-size, named-fits, allowed-as, input-named, input-allowed}
 
 -- each names an element that a run input takes, with a value of its size

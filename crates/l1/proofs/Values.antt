@@ -30,10 +30,10 @@ use Rattle.admission.specs.declared.Admission.{Admission}
 use Rattle.admission.specs.declared.Admission.the-variants.{Admitted, Refused}
 use Rattle.admission.specs.Refusals.{success, refusal, judgement, Passed}
 use Rattle.admission.proofs.Judging.{judged-passed, all-refused, all-admitted}
-use Rattle.marks.specs.Marks.{Cache, withMark, allowed, isInput, isReadable, isSpecial, goodCache}
+use Rattle.l1.specs.Marks.{Cache, withMark, allowed, isInput, isReadable, isSpecial, goodCache}
 use Rattle.l1.specs.Cache.{first, Wrote, change, writeCache, keep}
 use Rattle.l1.specs.Private.{elementTests, elementGood}
-use Rattle.marks.proofs.Marking.{values-long, marks-long}
+use Rattle.l1.proofs.Marking.{values-long, marks-long}
 
 -- ---- the element of an ID
 none-there : threadElement 170 ≡ record { id = 0; size = 0; position = 0 }

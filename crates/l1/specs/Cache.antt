@@ -22,7 +22,7 @@ use Rattle.exits.specs.Exits.{elementOf, valued}
 use Rattle.admission.specs.Refusals.{Outcome, success, refusal}
 use Rattle.state.specs.State.{getState}
 use Rattle.run.specs.Run.{cachedTests, runVcpu}
-use Rattle.marks.specs.Marks.{Cache, withMark, valid, changed, isInput, isReadable, goodCache}
+use Rattle.l1.specs.Marks.{Cache, withMark, valid, changed, isInput, isReadable, goodCache}
 
 -- ---- "Write: 15; 5 for a value over 65,528 bytes; 6 ..; 7. It stores the value, valid and changed." "Place is 0."
 abbrev pub first : Place

@@ -1,2 +1,4 @@
 pub mod Cache
 pub mod Private
+pub mod Marks
+pub mod MarksPrivate

@@ -11,7 +11,7 @@ use Rattle.exits.specs.Exits.{elementOf}
 use Rattle.admission.specs.declared.Admission.{Admission}
 use Rattle.admission.specs.Refusals.{success, judgement}
 use Rattle.state.specs.State.{gotElement}
-use Rattle.marks.specs.Marks.{Cache, valid, goodCache}
+use Rattle.l1.specs.Marks.{Cache, valid, goodCache}
 use Rattle.l1.specs.Cache.{valueTests, Got, fetched}
 
 -- 15, 5, 6 and 7 of a write or a read

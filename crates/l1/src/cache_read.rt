@@ -1,4 +1,6 @@
 // A read of one element into a lent buffer: from the cache where it is valid, else from get state, and then it is kept.
+use super::caches::is_readable;
+use super::marks::is_marked;
 use super::value::element_of;
 use super::value::judge_element;
 use super::value::keep_value;
@@ -8,11 +10,9 @@ use answer::Call;
 use answer::refusal;
 use answer::registers_of;
 use answer::success;
-use caches::is_readable;
-use copying::copy;
-use marks::is_marked;
-use numbers::number_of;
-use single::get_element;
+use elements::number_of;
+use octets::copy;
+use state::get_element;
 ghost use mathlib.Core.Path.{_≡_};
 ghost use mathlib.Core.Bool.{true};
 ghost use lib.ListN.{length};
@@ -20,7 +20,7 @@ ghost use Rattle.answer.specs.Answer.{told, accepted};
 ghost use Rattle.store.specs.Layout.{small};
 ghost use Rattle.exits.specs.Exits.{elementOf};
 ghost use Rattle.state.specs.State.{gotElement};
-ghost use Rattle.marks.specs.Marks.{isReadable};
+ghost use Rattle.l1.specs.Marks.{isReadable};
 ghost use Rattle.l1.specs.Cache.{Got, fetched, readCache};
 ghost use Rattle.l1.specs.Private.{readValue};
 

@@ -1,11 +1,11 @@
 // A write of one element: its value is kept, valid and changed, until the next run sends it.
+use super::caches::is_input;
 use super::value::change_value;
 use super::value::judge_element;
 use admission::Admission;
 use answer::Answer;
 use answer::refusal;
 use answer::success;
-use caches::is_input;
 ghost use mathlib.Core.Path.{_≡_};
 ghost use Rattle.l1.specs.Cache.{Wrote, writeCache};
 

@@ -2,7 +2,11 @@
 // `value` holds what a write and a read share. The cache's run is the crate `flush`.
 mod cache_read;
 mod cache_write;
+mod caches;
+mod flush;
+mod marks;
 mod value;
 
 pub use cache_read::read;
 pub use cache_write::write;
+pub use flush::run;

@@ -1,20 +1,20 @@
 // What a write and a read of one element share: its tests, and its place in the cache.
+use super::caches::good_cache;
+use super::marks::set_mark;
 use admission::Admission;
 use answer::Bad;
 use answer::Fault;
 use answer::Place;
-use caches::good_cache;
-use copying::copy;
 use elements::Element;
-use marks::set_mark;
-use numbers::number_of;
-use numbers::thread_element;
+use elements::number_of;
+use elements::thread_element;
+use octets::copy;
 ghost use mathlib.Core.Path.{_≡_};
 ghost use Prim.Native.Nat.{_<_};
 ghost use lib.ListN.{length};
 ghost use Rattle.elements.specs.Table.{numberOf};
 ghost use Rattle.exits.specs.Exits.{elementOf};
-ghost use Rattle.marks.specs.Marks.{Cache};
+ghost use Rattle.l1.specs.Marks.{Cache};
 ghost use Rattle.l1.specs.Cache.{change, keep};
 ghost use Rattle.l1.specs.Private.{elementGood};
 

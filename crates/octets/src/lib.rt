@@ -1,5 +1,19 @@
 // A byte widened, the bytes of a number swapped, the first bytes of a lent slice. `reading`, `writing` and `copying` stand on
 // these: everything above reads and writes lent memory through the four.
+mod copying;
+mod reading;
+mod writing;
+
+pub use copying::clear;
+pub use copying::copy;
+pub use reading::get_turned;
+pub use reading::get16;
+pub use reading::get32;
+pub use reading::get64;
+pub use reading::pair;
+pub use writing::put16;
+pub use writing::put32;
+pub use writing::put64;
 ghost use mathlib.Core.Path.{_≡_};
 ghost use Prim.Native.Nat.{_≤_, _<_};
 ghost use lib.ListN.{length};

@@ -21,7 +21,7 @@ use Rattle.store.specs.Search.{tally}
 use Rattle.store.specs.Header.{header, word, wordOf, isUsed, guestOf, holds, lacks, freeSlot, isDead, freeGuest, usedSlots}
 use Rattle.store.specs.Store.{wellFormed, fresh, putLive, withGuest, withVcpu}
 use Rattle.store.proofs.Search.{first-bounds, tally-ext, tally-more, tally-sum, tally-all}
-use Rattle.store.proofs.Fields.{word-same, word-other, word-live}
+use Rattle.store.proofs.FieldsLaws.{word-same, word-other, word-live}
 use Rattle.store.proofs.Frame.{header-full, header-values, header-caps, header-live, formed}
 use Rattle.store.proofs.Kept.{words-are, caps-word}
 use Rattle.store.proofs.Small.{sound-small, fresh-good}

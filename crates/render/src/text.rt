@@ -1,5 +1,5 @@
 // Text appended to a lent buffer: each function writes at a place and returns the place after.
-use copying::copy;
+use octets::copy;
 ghost use mathlib.Core.Path.{_≡_};
 ghost use mathlib.Core.List.{_++_};
 ghost use Prim.Native.Nat.{_+_, _^_, _≤_, _<_};

@@ -1,9 +1,14 @@
 // What a call may do with an element: the use permits it, and its size is the listed one. `values` tests the value; what both mean
 // is defined here.
+mod values;
+
 use elements::Access;
 use elements::Entry;
 use elements::Kind;
 use elements::Scope;
+pub use values::good_input;
+pub use values::good_output;
+pub use values::good_value;
 ghost use mathlib.Core.Path.{_≡_};
 ghost use Rattle.elements.specs.Table.{sameScope};
 ghost use Rattle.rules.specs.Rules.{between, readable, writable, allows, permits, sizeFits};

@@ -1,23 +1,26 @@
 // The tests of a run, before a byte of the store or of the output changes. `entry` runs; what both mean is defined here.
+mod entry;
+
 use admission::Admission;
 use admission::Target;
 use admission::small_target;
 use answer::Fault;
 use answer::Place;
 use answer::RunBuffer;
+pub use entry::run_vcpu;
 use exits::is_known;
 use gsb::Walked;
 use gsb::bad_length;
-use header::capabilities_of;
+use gsb::first_bad;
 use octets::first_bytes;
-use reading::get64;
+use octets::get64;
 use rules::Context;
 use rules::Usage;
+use rules::good_input;
+use rules::good_output;
 use store::Layout;
+use store::capabilities_of;
 use store::small_layout;
-use values::good_input;
-use values::good_output;
-use walk::first_bad;
 ghost use mathlib.Core.Path.{_≡_};
 ghost use Prim.Native.Nat.{_+_, _≤_};
 ghost use lib.ListN.{length};

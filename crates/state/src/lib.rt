@@ -1,5 +1,7 @@
 // Get state and set state. The whole buffer is judged before a byte of the store or of the buffer changes. `single` gets one element;
 // what it means is defined here.
+mod single;
+
 use admission::Admission;
 use admission::Target;
 use admission::small_target;
@@ -7,16 +9,17 @@ use answer::Answer;
 use answer::Fault;
 use answer::refusal;
 use answer::success;
-use filling::fill;
 use gsb::Walked;
 use gsb::bad_length;
-use header::capabilities_of;
+use gsb::first_bad;
 use rules::Context;
 use rules::Usage;
+pub use single::get_element;
 use store::Layout;
+use store::capabilities_of;
 use store::small_layout;
 use transfer::apply;
-use walk::first_bad;
+use transfer::fill;
 ghost use mathlib.Core.Path.{_≡_};
 ghost use mathlib.Core.List.{[]};
 ghost use Prim.Native.Nat.{_+_, _≤_};

@@ -1,5 +1,23 @@
 // The lent store: its layout, and where a guest's and a slot's values start. `header`, `slots` and `formed` read its header, `fields`,
 // `update` and `removal` change it; what they all mean is defined here.
+mod fields;
+mod formed;
+mod header;
+mod removal;
+mod slots;
+mod update;
+
+pub use fields::put_capabilities;
+pub use formed::well_formed;
+pub use header::capabilities_of;
+pub use header::is_live;
+pub use removal::without_guest;
+pub use removal::without_guests;
+pub use slots::free_guest;
+pub use slots::free_slot;
+pub use slots::slot_of;
+pub use update::with_guest;
+pub use update::with_vcpu;
 ghost use mathlib.Core.Path.{_≡_};
 ghost use Prim.Native.Nat.{_+_, _≤_, _<_, _*_};
 ghost use Rattle.store.specs.Layout.{Sound, small, guestAt, slotAt, guestBytes, slotBytes};

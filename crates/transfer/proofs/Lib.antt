@@ -1,6 +1,6 @@
 pub mod Moving
 pub mod Registers
-pub mod Filling
+pub mod FillingLaws
 pub mod Accepted
 pub mod Named
 pub mod Messages

@@ -1,12 +1,15 @@
 // An accepted guest state buffer's values, moved to a guest's or a slot's values, which start at `base` of the store.
 // Apart from the calls, since set and run share it. `filling` moves them the other way; what both mean is defined here.
+mod filling;
+
 use answer::Place;
-use copying::copy;
 use elements::Kind;
 use elements::Source;
-use kinds::kind_of;
-use reading::get16;
-use reading::get32;
+use elements::kind_of;
+pub use filling::fill;
+use octets::copy;
+use octets::get16;
+use octets::get32;
 use rules::within;
 ghost use mathlib.Core.Path.{_≡_};
 ghost use Prim.Native.Nat.{_+_, _≤_};

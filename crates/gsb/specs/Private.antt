@@ -1,0 +1,30 @@
+-- Names that only the contracts of private functions use.
+use Prim.Native.Nat.{ℕ, _-_, _≤_}
+use mathlib.Core.Path.{_≡_}
+use mathlib.Core.Bool.{cond}
+use mathlib.Core.List.{List}
+use lib.ListN.{length}
+use Rattle.answer.specs.declared.Place.{Place}
+use Rattle.rules.specs.declared.Usage.{Usage}
+use Rattle.rules.specs.declared.Context.{Context}
+use Rattle.rules.specs.Private.{ofThread}
+use Rattle.gsb.specs.declared.Verdict.{Verdict}
+use Rattle.gsb.specs.declared.Verdict.the-variants.{Good, Faulty}
+use Rattle.gsb.specs.Walk.{judged, walk}
+
+-- how far elements are judged by one number: to the end, where the use is about a vCPU
+abbrev pub reachOf : Usage → List ℕ → ℕ
+reachOf usage b = cond (ofThread usage) (length b) 0
+
+-- a verdict that may be the element's, in each use of which `room` is the reach; a fault says nothing
+abbrev pub Hasty : Verdict → ℕ → List ℕ → ℕ → Type 0
+Hasty (Good next) room b at = (next ≤ length b) × ((k : Context) → room ≡ reachOf (k .usage) b → Good next ≡ judged k b at)
+Hasty (Faulty bad) room b at = Unit {0}
+
+-- from one place to another of the same walk, in each such use
+pub record Skipped (b : List ℕ) (count room : ℕ) (from to : Place) : Type 0 where
+  pub onward : from .index ≤ to .index
+  pub upto : to .index ≤ count
+  pub inside : to .offset ≤ length b
+  pub same : (k : Context) → room ≡ reachOf (k .usage) b
+      → walk (judged k b) (count - from .index) (from .index) (from .offset) ≡ walk (judged k b) (count - to .index) (to .index) (to .offset)

@@ -1,0 +1,27 @@
+-- Rests on `copy-two`.
+use borrow.Author.Needs.{needs}
+use Rattle.octets.proofs.Bytes.{copy-two}
+use Rattle.octets.proofs.copying.copy16.Statement.{statement}
+use Rattle.octets.proofs.copying.copy16.Tie as tie
+
+copy8-requires : tie.Need-copy8-requires
+copy8-requires c κs = search needs
+
+add-copy8 : tie.Need-add-copy8
+add-copy8 c = search needs
+
+add-copy8-2 : tie.Need-add-copy8-2
+add-copy8-2 c = search needs
+
+copy8-requires-2 : tie.Need-copy8-requires-2
+copy8-requires-2 c κs = search needs
+
+same-length : tie.Need-same-length
+same-length c = search needs
+
+returns : tie.Need-returns
+returns c = search (needs, copy-two)
+
+pub copy16-spec : {M : Type 1} → statement M
+copy16-spec =
+    tie.close (tie.spec copy8-requires add-copy8 add-copy8-2 copy8-requires-2 same-length returns)

@@ -1,0 +1,94 @@
+// Whether a store is well formed. Slot words are read from the lent store one at a time.
+use super::Layout;
+use super::header::is_live;
+use super::header::slot_word;
+use octets::get64;
+use octets::wide;
+ghost use mathlib.Core.Path.{_≡_};
+ghost use mathlib.Core.Bool.{cond};
+ghost use Prim.Native.Nat.{_≤_, _<_};
+ghost use lib.ListN.{length};
+ghost use Rattle.store.specs.Layout.{Sound};
+ghost use Rattle.store.specs.Private.{timesOf, slotCounted};
+ghost use Rattle.store.specs.Header.{header, holds, headGood, wordsGood};
+ghost use Rattle.store.specs.Store.{wellFormed};
+
+fn held(s: &[u8], l: Layout, b: usize, w: usize) -> u16
+    requires { ⌜ Sound l × (length (now s) ≡ l .size) × (b < l .slots) ⌝ }
+    ensures { λ r. ⌜ (r ≡ cond (holds l (header l (now (s .entry))) w b) 1 0) × (r ≤ 1) ⌝ }
+{
+    if slot_word(s, l, b) == w {
+        return 1;
+    }
+    0
+}
+
+// How many slots hold the word. It does not leave early: the compiler compares all words at once.
+fn times(s: &[u8], l: Layout, w: usize) -> u16
+    requires { ⌜ Sound l × (length (now s) ≡ l .size) ⌝ }
+    ensures { λ r. ⌜ r ≡ timesOf l (header l (now (s .entry))) w ⌝ }
+{
+    let mut n: u16 = 0;
+    let mut b = 0;
+    while b < l.slots {
+        n += held(s, l, b, w);
+        b += 1;
+    }
+    n
+}
+
+// A used word stands once, which is what no two alike comes to.
+fn slot_good(s: &[u8], l: Layout, a: usize) -> bool
+    requires { ⌜ Sound l × (length (now s) ≡ l .size) × (a < l .slots) ⌝ }
+    ensures { λ r. ⌜ r ≡ slotCounted l (header l (now (s .entry))) a ⌝ }
+{
+    let w = slot_word(s, l, a);
+    if w == 0 {
+        return true;
+    }
+    if w / 2048 < l.ids {
+        return false;
+    }
+    if !is_live(s, l, w / 2048 - l.ids) {
+        return false;
+    }
+    times(s, l, w) == 1
+}
+
+fn words_good(s: &[u8], l: Layout) -> bool
+    requires { ⌜ Sound l × (length (now s) ≡ l .size) ⌝ }
+    ensures { λ r. ⌜ r ≡ wordsGood l (header l (now (s .entry))) ⌝ }
+{
+    let mut a = 0;
+    while a < l.slots {
+        if !slot_good(s, l, a) {
+            return false;
+        }
+        a += 1;
+    }
+    true
+}
+
+fn head_good(s: &[u8], l: Layout) -> bool
+    requires { ⌜ Sound l × (length (now s) ≡ l .size) ⌝ }
+    ensures { λ r. ⌜ r ≡ headGood l (header l (now (s .entry))) ⌝ }
+{
+    if get64(s, 0) & !0x6000_0000_0000_0000 != 0 {
+        return false;
+    }
+    let x = wide(s[(64 + l.guests) / 8]);
+    x == x >> l.zeros << l.zeros
+}
+
+pub fn well_formed(s: &[u8], l: Layout) -> bool
+    requires { ⌜ Sound l ⌝ }
+    ensures { λ r. ⌜ r ≡ wellFormed l (now (s .entry)) ⌝ }
+{
+    if s.len() != l.size {
+        return false;
+    }
+    if !head_good(s, l) {
+        return false;
+    }
+    words_good(s, l)
+}
