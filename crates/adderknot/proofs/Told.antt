@@ -8,9 +8,9 @@ use Rattle.answer.specs.declared.Call.the-variants.{RunVcpu, Lookup}
 use Rattle.answer.specs.declared.Registers.{Registers}
 use Rattle.answer.specs.Answer.{told}
 use Rattle.admission.specs.Refusals.{Outcome}
-use Rattle.gsb.specs.declared.finding.Found.{Found as Looked}
+use Rattle.gsb.specs.declared.lookups.Found.{Found as Looked}
 use Rattle.adderknot.specs.declared.Found.{Found}
-use Rattle.adderknot.specs.Entries.{Left, tells, leaves, Filled, fills, Ran, runs, foundAt}
+use Rattle.adderknot.specs.Entries.{Left, tells, leaves, Filled, fills, RunLeft, runs, foundAt}
 
 module _ (c : Call) (r : Registers) (a : Answer) (s : List ℕ) (o : Outcome) (e : _≡_ {A = Outcome} (record { answer = a; store = s; buffer = [] }) o) (h : r ≡ told c (a .fault) (a .value)) where
   pub told-numbers : r ≡ tells c o
@@ -24,7 +24,7 @@ pub told-filled : (c : Call) (r : Registers) (a : Answer) (s b : List ℕ) (o : 
 told-filled c r a s b o e h = ap (λ (x : Registers). record { registers = x; buffer = b }) h ∙ ap (fills c) e
 
 pub told-ran : (r : Registers) (a : Answer) (s b : List ℕ) (o : Outcome) → _≡_ {A = Outcome} (record { answer = a; store = s; buffer = b }) o → r ≡ told RunVcpu (a .fault) (a .value)
-    → _≡_ {A = Ran} (record { registers = r; store = s; output = b }) (runs o)
+    → _≡_ {A = RunLeft} (record { registers = r; store = s; output = b }) (runs o)
 told-ran r a s b o e h = ap (λ (x : Registers). record { registers = x; store = s; output = b }) h ∙ ap runs e
 
 pub told-found : (t : Registers) (f x : Looked) → f ≡ x → t ≡ told Lookup (f .answer .fault) (f .answer .value)

@@ -5,7 +5,7 @@ use Rattle.answer.specs.declared.Call.{Call}
 use Rattle.answer.specs.declared.Call.the-variants.{RunVcpu, Lookup}
 use Rattle.answer.specs.declared.Registers.{Registers}
 use Rattle.answer.specs.Answer.{told}
-use Rattle.gsb.specs.declared.finding.Found.{Found as Looked}
+use Rattle.gsb.specs.declared.lookups.Found.{Found as Looked}
 use Rattle.admission.specs.Refusals.{Outcome}
 use Rattle.adderknot.specs.declared.Found.{Found}
 
@@ -29,12 +29,12 @@ abbrev pub fills : Call → Outcome → Filled
 fills c o = record { registers = tells c o; buffer = o .buffer }
 
 -- of a run, which writes both
-pub record Ran : Type 0 where
+pub record RunLeft : Type 0 where
   pub registers : Registers
   pub store : List ℕ
   pub output : List ℕ
 
-abbrev pub runs : Outcome → Ran
+abbrev pub runs : Outcome → RunLeft
 runs o = record { registers = tells RunVcpu o; store = o .store; output = o .buffer }
 
 -- a lookup's answer and where the part lies

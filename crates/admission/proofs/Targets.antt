@@ -14,7 +14,7 @@ use Rattle.store.specs.Header.{header, live, slotOf}
 use Rattle.admission.specs.declared.Admission.{Admission}
 use Rattle.admission.specs.declared.Admission.the-variants.{Admitted, Refused}
 use Rattle.admission.specs.declared.Target.{Target}
-use Rattle.admission.specs.declared.Target.the-variants.{Turned, At}
+use Rattle.admission.specs.declared.Target.the-variants.{Refused as TargetRefused, At}
 use Rattle.admission.specs.Refusals.{admission, judgement}
 use Rattle.admission.specs.Target.{targetTests, baseOf, targetOf, Held}
 use Rattle.admission.proofs.FirstTests.{refused, past, admitted}
@@ -23,18 +23,18 @@ use Rattle.admission.proofs.Judging.{was-refused, was-admitted}
 -- ---- the answers of `target_of`
 module _ (l : Layout) (s : List ℕ) (supported flags : ℕ) (wide : Bool) (guest vcpu : ℕ) (a : Admission) (q : a ≡ admission l s supported flags) where
   rest : Target
-  rest = cond (not (live l (header l s) guest)) (Turned Guest) (cond (not wide && leb (l .slots) (slotOf l (header l s) guest vcpu)) (Turned Vcpu) (At (baseOf l s wide guest vcpu)))
+  rest = cond (not (live l (header l s) guest)) (TargetRefused Guest) (cond (not wide && leb (l .slots) (slotOf l (header l s) guest vcpu)) (TargetRefused Vcpu) (At (baseOf l s wide guest vcpu)))
 
-  pub target-refused : (f : Fault) → a ≡ Refused f → Turned f ≡ targetOf l s supported flags wide guest vcpu
+  pub target-refused : (f : Fault) → a ≡ Refused f → TargetRefused f ≡ targetOf l s supported flags wide guest vcpu
   unfolding targetOf rest
-  target-refused f h = sym (refused l s supported flags Turned rest a f q h)
+  target-refused f h = sym (refused l s supported flags TargetRefused rest a f q h)
 
   module _ (h : a ≡ Admitted) (x : Bool) (o : x ≡ live l (header l s) guest) where
     target-past : targetOf l s supported flags wide guest vcpu ≡ rest
     unfolding targetOf rest
-    target-past = admitted l s supported flags Turned rest (past l s supported flags a q h)
+    target-past = admitted l s supported flags TargetRefused rest (past l s supported flags a q h)
 
-    pub target-dead : not x ≡ true → Turned Guest ≡ targetOf l s supported flags wide guest vcpu
+    pub target-dead : not x ≡ true → TargetRefused Guest ≡ targetOf l s supported flags wide guest vcpu
     unfolding rest
     target-dead n =
         let m : not (live l (header l s) guest) ≡ true = ap not (sym o) ∙ n in
@@ -49,7 +49,7 @@ module _ (l : Layout) (s : List ℕ) (supported flags : ℕ) (wide : Bool) (gues
       target-wide p w e = ap At e ∙ sym (target-past ∙ simp (alive, w))
 
       module _ (w : wide ≡ false) (j : ℕ) (e : j ≡ slotOf l (header l s) guest vcpu) where
-        pub target-absent : l .slots ≤ j → Turned Vcpu ≡ targetOf l s supported flags wide guest vcpu
+        pub target-absent : l .slots ≤ j → TargetRefused Vcpu ≡ targetOf l s supported flags wide guest vcpu
         unfolding rest
         target-absent k =
             let m : l .slots ≤ slotOf l (header l s) guest vcpu = omega arith in
@@ -73,24 +73,24 @@ held-slot l wide len base e w h =
     (e, omega (arith, q))
 
 -- ---- what callers learn
-turned-same : (f g : Fault) → Turned f ≡ Turned g → f ≡ g
-turned-same f g e = cc
+refused-same : (f g : Fault) → TargetRefused f ≡ TargetRefused g → f ≡ g
+refused-same f g e = cc
 
-turned-not : {base : ℕ} (f : Fault) → At base ≡ Turned f → ⊥
-turned-not f e = let z : _≡_ {A = ℕ} 0 1 = cc in omega arith
+refused-not : {base : ℕ} (f : Fault) → At base ≡ TargetRefused f → ⊥
+refused-not f e = let z : _≡_ {A = ℕ} 0 1 = cc in omega arith
 
-found-not : {base : ℕ} (f : Fault) → Turned f ≡ At base → ⊥
+found-not : {base : ℕ} (f : Fault) → TargetRefused f ≡ At base → ⊥
 found-not f e = let z : _≡_ {A = ℕ} 0 1 = cc in omega arith
 
 module _ (l : Layout) (s : List ℕ) (supported flags : ℕ) (wide : Bool) (guest vcpu : ℕ) (a : Target) (q : a ≡ targetOf l s supported flags wide guest vcpu) where
-  pub target-judged : (f : Fault) → a ≡ Turned f → judgement (targetTests l s supported flags wide guest vcpu) ≡ Refused f
+  pub target-judged : (f : Fault) → a ≡ TargetRefused f → judgement (targetTests l s supported flags wide guest vcpu) ≡ Refused f
   unfolding targetOf
-  target-judged f h = was-refused Turned turned-same (At (baseOf l s wide guest vcpu)) turned-not (targetTests l s supported flags wide guest vcpu) f (sym q ∙ h)
+  target-judged f h = was-refused TargetRefused refused-same (At (baseOf l s wide guest vcpu)) refused-not (targetTests l s supported flags wide guest vcpu) f (sym q ∙ h)
 
   pub target-found : (base : ℕ) → a ≡ At base → (judgement (targetTests l s supported flags wide guest vcpu) ≡ Admitted) × (baseOf l s wide guest vcpu ≡ base)
   unfolding targetOf
   target-found base h =
-      let p = was-admitted Turned turned-same (At (baseOf l s wide guest vcpu)) turned-not (targetTests l s supported flags wide guest vcpu) (At base) found-not (sym q ∙ h) in
+      let p = was-admitted TargetRefused refused-same (At (baseOf l s wide guest vcpu)) refused-not (targetTests l s supported flags wide guest vcpu) (At base) found-not (sym q ∙ h) in
       (p .0, at-same (p .1))
     where
       at-same : {x y : ℕ} → At x ≡ At y → x ≡ y

@@ -11,7 +11,7 @@ use Rattle.store.specs.declared.Layout.{Layout}
 use Rattle.store.specs.Layout.{guestBytes, slotBytes, guestAt, slotAt}
 use Rattle.store.specs.Header.{header, slotOf}
 use Rattle.admission.specs.declared.Target.{Target}
-use Rattle.admission.specs.declared.Target.the-variants.{Turned, At}
+use Rattle.admission.specs.declared.Target.the-variants.{Refused, At}
 use Rattle.admission.specs.Refusals.{malformed, unsupported, notLive}
 
 -- 1 to 4 of get state, set state and run. 4: "vCPU id above 2047, or (not when creating) absent"; "guest-wide; the vCPU id is then ignored".
@@ -25,9 +25,9 @@ unfoldable pub baseOf : Layout → List ℕ → Bool → ℕ → ℕ → ℕ
 baseOf l s wide guest vcpu = cond wide (guestAt l guest) (slotAt l (slotOf l (header l s) guest vcpu))
 
 unfoldable pub targetOf : Layout → List ℕ → ℕ → ℕ → Bool → ℕ → ℕ → Target
-targetOf l s supported flags wide guest vcpu = firstOf Turned (targetTests l s supported flags wide guest vcpu) (At (baseOf l s wide guest vcpu))
+targetOf l s supported flags wide guest vcpu = firstOf Refused (targetTests l s supported flags wide guest vcpu) (At (baseOf l s wide guest vcpu))
 
 -- the values of a target that was found lie within the store, which is well formed and so has the layout's length
 abbrev pub Held : Target → Bool → Layout → ℕ → Type 0
-Held (Turned f) wide l len = Unit {0}
+Held (Refused f) wide l len = Unit {0}
 Held (At base) wide l len = (len ≡ l .size) × (base + cond wide guestBytes slotBytes ≤ l .size)

@@ -24,7 +24,7 @@ pub enum Admission {
 
 // What a call works on: where the values of a guest or of a vCPU start; or a refusal by the tests before.
 pub enum Target {
-    Turned(Fault),
+    Refused(Fault),
     At(usize),
 }
 
@@ -66,18 +66,18 @@ pub fn target_of(
 {
     let admission = admit(store, l, supported, flags);
     match admission {
-        Admission::Refused(fault) => return Target::Turned(fault),
+        Admission::Refused(fault) => return Target::Refused(fault),
         Admission::Admitted => {}
     }
     if !is_live(store, l, guest) {
-        return Target::Turned(Fault::Guest);
+        return Target::Refused(Fault::Guest);
     }
     if wide {
         return Target::At(guest_at(l, guest));
     }
     let slot = slot_of(store, l, guest, vcpu);
     if l.slots <= slot {
-        return Target::Turned(Fault::Vcpu);
+        return Target::Refused(Fault::Vcpu);
     }
     Target::At(slot_at(l, slot))
 }

@@ -22,7 +22,7 @@ use Rattle.exits.specs.Exits.{elementOf}
 use Rattle.admission.specs.Refusals.{Outcome, success, refusal, accept, refuse}
 use Rattle.run.specs.Run.{inputSize, outputSize}
 use Rattle.l1.specs.Marks.{Cache, valid, changed, isInput, isSpecial, goodCache}
-use Rattle.l1.specs.Cache.{first, Wrote, change, writeCache, keep}
+use Rattle.l1.specs.Cache.{placeZero, WriteOutcome, change, writeCache, keep}
 use Rattle.agreement.specs.Plain.{writePlain}
 use Rattle.agreement.specs.Agree.{Op, Write, seen, Turn, Cached, cachedTurn, plainTurn, since, newest, Same, registeredInput}
 use Rattle.l1.proofs.Cells.{Named, number-named, named-number, number-back, named-back, input-named, input-common, valueOf, value-same, value-other, length-value}
@@ -215,25 +215,25 @@ module _ (l : Layout) (so : Sound l) (g v j : ℕ) (below : j < l .slots) where
       cached-write : (a x y : Bool) → ltb 65528 (length w) ≡ a → isInput id ≡ x → eqb (length w) (elementOf id .size) ≡ y
           → writeCache (b .cache) id w
           ≡ cond a (record { answer = refusal Length; cache = b .cache })
-          (cond (not x) (record { answer = refusal (Element Id first); cache = b .cache })
-          (cond (not y) (record { answer = refusal (Element Size first); cache = b .cache }) (record { answer = success 0; cache = change (b .cache) id w })))
+          (cond (not x) (record { answer = refusal (Element Id placeZero); cache = b .cache })
+          (cond (not y) (record { answer = refusal (Element Size placeZero); cache = b .cache }) (record { answer = success 0; cache = change (b .cache) id w })))
       unfolding writeCache
       cached-write a x y p q r =
           ap₂ (λ (t u : Bool). cond (not t) (record { answer = refusal CacheBad; cache = b .cache }) (cond u (record { answer = refusal Length; cache = b .cache })
-          (cond (not (isInput id)) (record { answer = refusal (Element Id first); cache = b .cache })
-          (cond (not (eqb (length w) (elementOf id .size))) (record { answer = refusal (Element Size first); cache = b .cache }) (record { answer = success 0; cache = change (b .cache) id w }))))) cache-good p
+          (cond (not (isInput id)) (record { answer = refusal (Element Id placeZero); cache = b .cache })
+          (cond (not (eqb (length w) (elementOf id .size))) (record { answer = refusal (Element Size placeZero); cache = b .cache }) (record { answer = success 0; cache = change (b .cache) id w }))))) cache-good p
           ∙ ap₂ (λ (t u : Bool). cond a (record { answer = refusal Length; cache = b .cache })
-          (cond (not t) (record { answer = refusal (Element Id first); cache = b .cache })
-          (cond (not u) (record { answer = refusal (Element Size first); cache = b .cache }) (record { answer = success 0; cache = change (b .cache) id w })))) q r
+          (cond (not t) (record { answer = refusal (Element Id placeZero); cache = b .cache })
+          (cond (not u) (record { answer = refusal (Element Size placeZero); cache = b .cache }) (record { answer = success 0; cache = change (b .cache) id w })))) q r
 
       -- a turn by what each side did
-      wrote : (r : Wrote) (o : Outcome) → writeCache (b .cache) id w ≡ r → writePlain l p g v id w ≡ o
+      wrote : (r : WriteOutcome) (o : Outcome) → writeCache (b .cache) id w ≡ r → writePlain l p g v id w ≡ o
           → Goes b (Write id w) ws (record { shown = seen Name.CacheWrite (r .answer) []; next = record { cache = r .cache; store = b .store }; input = [] }) (record { shown = seen Name.SetState (o .answer) []; next = o .store; input = [] })
           → Goes b (Write id w) ws (cachedTurn l g v (Write id w) b) (plainTurn l g v (Write id w) p)
       unfolding cachedTurn plainTurn
       wrote r o e q t =
           as-turned b (Write id w) ws _ _ _ _
-          (ap (λ (x : Wrote). record { shown = seen Name.CacheWrite (x .answer) []; next = record { cache = x .cache; store = b .store }; input = [] }) e)
+          (ap (λ (x : WriteOutcome). record { shown = seen Name.CacheWrite (x .answer) []; next = record { cache = x .cache; store = b .store }; input = [] }) e)
           (ap (λ (x : Outcome). record { shown = seen Name.SetState (x .answer) []; next = x .store; input = [] }) q) t
 
       pub write-turn : Goes b (Write id w) ws (cachedTurn l g v (Write id w) b) (plainTurn l g v (Write id w) p)
@@ -246,15 +246,15 @@ module _ (l : Layout) (so : Sound l) (g v j : ℕ) (below : j < l .slots) where
               wrote (record { answer = success 0; cache = change (b .cache) id w }) (accept 0 (placed at (id, w) p)) (cached-write false true true a x e) (write-good l so g v j below p plain-ours id w a (input-common id x) small x e)
               (record { same = record { shown = refl; stores = tt; input = tt }; next = write-inv id w x (eqb-true _ _ e) })
           by-size a x false e =
-              wrote (record { answer = refusal (Element Size first); cache = b .cache }) (refuse p [] (Element Size firstPlace)) (cached-write false true false a x e) (write-size l so g v j below p plain-ours id w a (input-common id x) small x e)
+              wrote (record { answer = refusal (Element Size placeZero); cache = b .cache }) (refuse p [] (Element Size firstPlace)) (cached-write false true false a x e) (write-size l so g v j below p plain-ours id w a (input-common id x) small x e)
               (record { same = record { shown = refl; stores = tt; input = tt }; next = i })
 
           by-special : ltb 65528 (length w) ≡ false → isInput id ≡ false → (u : Bool) → isSpecial id ≡ u → Goes b (Write id w) ws (cachedTurn l g v (Write id w) b) (plainTurn l g v (Write id w) p)
           by-special a x true e =
-              wrote (record { answer = refusal (Element Id first); cache = b .cache }) (refuse p [] (Element Id first)) (cached-write false false (eqb (length w) (elementOf id .size)) a x refl) (write-special l so g v j below p plain-ours id w a e)
+              wrote (record { answer = refusal (Element Id placeZero); cache = b .cache }) (refuse p [] (Element Id placeZero)) (cached-write false false (eqb (length w) (elementOf id .size)) a x refl) (write-special l so g v j below p plain-ours id w a e)
               (record { same = record { shown = refl; stores = tt; input = tt }; next = i })
           by-special a x false e =
-              wrote (record { answer = refusal (Element Id first); cache = b .cache }) (refuse p [] (Element Id firstPlace)) (cached-write false false (eqb (length w) (elementOf id .size)) a x refl) (write-id l so g v j below p plain-ours id w a e small x)
+              wrote (record { answer = refusal (Element Id placeZero); cache = b .cache }) (refuse p [] (Element Id firstPlace)) (cached-write false false (eqb (length w) (elementOf id .size)) a x refl) (write-id l so g v j below p plain-ours id w a e small x)
               (record { same = record { shown = refl; stores = tt; input = tt }; next = i })
 
           by-input : ltb 65528 (length w) ≡ false → (x : Bool) → isInput id ≡ x → Goes b (Write id w) ws (cachedTurn l g v (Write id w) b) (plainTurn l g v (Write id w) p)

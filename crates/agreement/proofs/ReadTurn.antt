@@ -22,7 +22,7 @@ use Rattle.exits.specs.Exits.{elementOf}
 use Rattle.admission.specs.Refusals.{Outcome, success, refusal, refuse}
 use Rattle.state.specs.State.{fillWith, getState}
 use Rattle.l1.specs.Marks.{valid, isReadable, isSpecial}
-use Rattle.l1.specs.Cache.{first, Got, keep, one, valueIn, fetched, readCache}
+use Rattle.l1.specs.Cache.{placeZero, ReadOutcome, keep, one, valueIn, fetched, readCache}
 use Rattle.agreement.specs.Plain.{readPlain}
 use Rattle.agreement.specs.Agree.{Read, Seen, seen, Turn, Cached, cachedTurn, plainTurn, since}
 use Rattle.l1.proofs.Cells.{Named, named-number, named-back, readable-named, readable-common, valueOf}
@@ -35,37 +35,37 @@ module _ (l : Layout) (so : Sound l) (g v j : ℕ) (below : j < l .slots) (b : C
   place = at l so g v j below
 
   -- past its refusals a read takes the value from the cache or from get state
-  abbrev served : Got
+  abbrev served : ReadOutcome
   served = record { answer = success 0; cache = b .cache; value = bytesAt (b .cache .values) (elementOf id .position) (elementOf id .size) }
 
-  abbrev asked : Got
+  abbrev asked : ReadOutcome
   asked = fetched (b .cache) id (length w) (getState l (b .store) 0 g v (one id w))
 
   cached-read : (a x y u : Bool) → ltb 65528 (length w) ≡ a → isReadable id ≡ x → eqb (length w) (elementOf id .size) ≡ y → valid (b .cache) (numberOf id) ≡ u
       → readCache l (b .store) g v (b .cache) id w
       ≡ cond a (record { answer = refusal Length; cache = b .cache; value = w })
-      (cond (not x) (record { answer = refusal (Element Id first); cache = b .cache; value = w })
-      (cond (not y) (record { answer = refusal (Element Size first); cache = b .cache; value = w }) (cond u served asked)))
+      (cond (not x) (record { answer = refusal (Element Id placeZero); cache = b .cache; value = w })
+      (cond (not y) (record { answer = refusal (Element Size placeZero); cache = b .cache; value = w }) (cond u served asked)))
   unfolding readCache
   cached-read a x y u p₁ p₂ p₃ p₄ =
       ap₂ (λ (t s : Bool). cond (not t) (record { answer = refusal CacheBad; cache = b .cache; value = w }) (cond s (record { answer = refusal Length; cache = b .cache; value = w })
-      (cond (not (isReadable id)) (record { answer = refusal (Element Id first); cache = b .cache; value = w })
-      (cond (not (eqb (length w) (elementOf id .size))) (record { answer = refusal (Element Size first); cache = b .cache; value = w }) (cond (valid (b .cache) (numberOf id)) served asked)))))
+      (cond (not (isReadable id)) (record { answer = refusal (Element Id placeZero); cache = b .cache; value = w })
+      (cond (not (eqb (length w) (elementOf id .size))) (record { answer = refusal (Element Size placeZero); cache = b .cache; value = w }) (cond (valid (b .cache) (numberOf id)) served asked)))))
       (cache-good l so g v j below b p ws i) p₁
       ∙ ap₂ (λ (t s : Bool). cond a (record { answer = refusal Length; cache = b .cache; value = w })
-      (cond (not t) (record { answer = refusal (Element Id first); cache = b .cache; value = w })
-      (cond (not s) (record { answer = refusal (Element Size first); cache = b .cache; value = w }) (cond (valid (b .cache) (numberOf id)) served asked)))) p₂ p₃
+      (cond (not t) (record { answer = refusal (Element Id placeZero); cache = b .cache; value = w })
+      (cond (not s) (record { answer = refusal (Element Size placeZero); cache = b .cache; value = w }) (cond (valid (b .cache) (numberOf id)) served asked)))) p₂ p₃
       ∙ ap (λ (t : Bool). cond a (record { answer = refusal Length; cache = b .cache; value = w })
-      (cond (not x) (record { answer = refusal (Element Id first); cache = b .cache; value = w })
-      (cond (not y) (record { answer = refusal (Element Size first); cache = b .cache; value = w }) (cond t served asked)))) p₄
+      (cond (not x) (record { answer = refusal (Element Id placeZero); cache = b .cache; value = w })
+      (cond (not y) (record { answer = refusal (Element Size placeZero); cache = b .cache; value = w }) (cond t served asked)))) p₄
 
-  abbrev cachedOf : Got → Turn Cached
+  abbrev cachedOf : ReadOutcome → Turn Cached
   cachedOf r = record { shown = seen Name.CacheRead (r .answer) (r .value); next = record { cache = r .cache; store = b .store }; input = [] }
 
   abbrev plainOf : Outcome → Turn (List ℕ)
   plainOf o = record { shown = seen Name.GetState (o .answer) (valueIn (o .buffer) (length w)); next = o .store; input = [] }
 
-  got : (r : Got) (o : Outcome) → readCache l (b .store) g v (b .cache) id w ≡ r → readPlain l p g v id w ≡ o
+  got : (r : ReadOutcome) (o : Outcome) → readCache l (b .store) g v (b .cache) id w ≡ r → readPlain l p g v id w ≡ o
       → Goes l so g v j below b (Read id w) ws (cachedOf r) (plainOf o) → Goes l so g v j below b (Read id w) ws (cachedTurn l g v (Read id w) b) (plainTurn l g v (Read id w) p)
   unfolding cachedTurn plainTurn
   got r o e q t = as-turned l so g v j below b (Read id w) ws _ _ _ _ (ap cachedOf e) (ap plainOf q) t
@@ -123,18 +123,18 @@ module _ (l : Layout) (so : Sound l) (g v j : ℕ) (below : j < l .slots) (b : C
           → Goes l so g v j below b (Read id w) ws (cachedTurn l g v (Read id w) b) (plainTurn l g v (Read id w) p)
       by-size a x true y = good-turn a x y (valid (b .cache) (numberOf id)) refl
       by-size a x false y =
-          got (record { answer = refusal (Element Size first); cache = b .cache; value = w }) (refuse p (one id w) (Element Size firstPlace)) (cached-read false true false (valid (b .cache) (numberOf id)) a x y refl)
+          got (record { answer = refusal (Element Size placeZero); cache = b .cache; value = w }) (refuse p (one id w) (Element Size firstPlace)) (cached-read false true false (valid (b .cache) (numberOf id)) a x y refl)
           (read-size l so g v j below p (plain-ours l so g v j below b p ws i) id w a (readable-common id x) small x y)
           (record { same = record { shown = shows (three 7 0 0) _ _ left-alone; stores = tt; input = tt }; next = i })
 
       by-special : ltb 65528 (length w) ≡ false → isReadable id ≡ false → (u : Bool) → isSpecial id ≡ u
           → Goes l so g v j below b (Read id w) ws (cachedTurn l g v (Read id w) b) (plainTurn l g v (Read id w) p)
       by-special a x true u =
-          got (record { answer = refusal (Element Id first); cache = b .cache; value = w }) (refuse p (one id w) (Element Id first)) (cached-read false false (eqb (length w) (elementOf id .size)) (valid (b .cache) (numberOf id)) a x refl refl)
+          got (record { answer = refusal (Element Id placeZero); cache = b .cache; value = w }) (refuse p (one id w) (Element Id placeZero)) (cached-read false false (eqb (length w) (elementOf id .size)) (valid (b .cache) (numberOf id)) a x refl refl)
           (read-special l so g v j below p (plain-ours l so g v j below b p ws i) id w a u)
           (record { same = record { shown = shows (three 6 0 0) _ _ left-alone; stores = tt; input = tt }; next = i })
       by-special a x false u =
-          got (record { answer = refusal (Element Id first); cache = b .cache; value = w }) (refuse p (one id w) (Element Id firstPlace)) (cached-read false false (eqb (length w) (elementOf id .size)) (valid (b .cache) (numberOf id)) a x refl refl)
+          got (record { answer = refusal (Element Id placeZero); cache = b .cache; value = w }) (refuse p (one id w) (Element Id firstPlace)) (cached-read false false (eqb (length w) (elementOf id .size)) (valid (b .cache) (numberOf id)) a x refl refl)
           (read-id l so g v j below p (plain-ours l so g v j below b p ws i) id w a u small x)
           (record { same = record { shown = shows (three 6 0 0) _ _ left-alone; stores = tt; input = tt }; next = i })
 

@@ -35,13 +35,13 @@ use Rattle.admission.specs.declared.Admission.{Admission}
 use Rattle.admission.specs.declared.Admission.the-variants.{Admitted, Refused}
 use Rattle.admission.specs.Refusals.{Outcome, success, refusal, refuse, decide, judgement, unsupported}
 use Rattle.state.specs.State.{contextOf, isStopped, faultOf}
-use Rattle.run.specs.Run.{runBits, inputSize, outputSize, lentTests, effectFault, exitTests, spotTests, inputOf, contentTests, ranStore, ran, runVcpu}
+use Rattle.run.specs.Run.{runBits, inputSize, outputSize, lentTests, effectFault, exitTests, runTargetTests, inputOf, contentTests, ranStore, ran, runVcpu}
 use Rattle.admission.proofs.Judging.{begin-refused, begin-admitted, all-refused, all-admitted, judged-passed}
 use Rattle.promises.proofs.Kept.{applied-header, applied-kept}
 use Rattle.promises.proofs.Lowest.{Real}
 use Rattle.promises.proofs.Told.{none-told}
 use Rattle.l1.specs.Marks.{Cache}
-use Rattle.l1.specs.Cache.{pending, refreshed, Ran, ranWith, runCache}
+use Rattle.l1.specs.Cache.{pending, refreshed, RunOutcome, ranWith, runCache}
 use Rattle.agreement.specs.Plain.{runPlain}
 use Rattle.agreement.specs.Agree.{Op, Run, seen, Turn, Cached, cachedTurn, plainTurn, since, inOrder, Holds, registeredInput}
 use Rattle.agreement.proofs.Ours.{Ours, ours-base, ours-room, back-header, back-input, back-output}
@@ -119,10 +119,10 @@ module _ (l : Layout) (so : Sound l) (g v j : ℕ) (below-slots : j < l .slots) 
     ),
   )
 
-  spot-common : (s : List ℕ) → Ours l so g v j below-slots s → (need lent : ℕ) → need ≤ inputSize s place → lent ≡ length input
-      → spotTests l s flags g v need lent (length output) ≡ common (header l s) (inputSize s place) (outputSize s place)
+  run-target-common : (s : List ℕ) → Ours l so g v j below-slots s → (need lent : ℕ) → need ≤ inputSize s place → lent ≡ length input
+      → runTargetTests l s flags g v need lent (length output) ≡ common (header l s) (inputSize s place) (outputSize s place)
   unfolding common
-  spot-common s o need lent k e =
+  run-target-common s o need lent k e =
       ap₂ (λ (t : Bool) (x : ℕ). ((not t, Store) ∷ unsupported runBits flags ∷ (not (live l (header l s) g), Guest) ∷ (leb (l .slots) (slotOf l (header l s) g v), Vcpu) ∷ []) ++ lentTests s x need lent (length output)) (o .good) (ours-base l so g v j below-slots s o)
       ∙ ap₂ (λ (n : ℕ) (z : Bool). (false, Store) ∷ unsupported runBits flags ∷ (not (live l (header l s) g), Guest) ∷ (leb (l .slots) (slotOf l (header l s) g v), Vcpu)
       ∷ (not (goodInput (inputSize s place)), Unregistered Input) ∷ (not (goodOutput (outputSize s place)), Unregistered Output) ∷ (ltb n (inputSize s place) || z, Short Input) ∷ (ltb (length output) (outputSize s place), Short Output) ∷ [])
@@ -174,7 +174,7 @@ module _ (l : Layout) (so : Sound l) (g v j : ℕ) (below-slots : j < l .slots) 
     unfolding runVcpu decide
     run-as =
         ap₂ (λ (xs : List (Bool × Fault)) (x : ℕ). firstOf (refuse s output) (xs ++ contentTests l s (inputOf s x lent) effect exit) (ran x s (inputOf s x lent) output effect exit))
-        (spot-common s o 0 (length lent) (omega arith) n) (ours-base l so g v j below-slots s o)
+        (run-target-common s o 0 (length lent) (omega arith) n) (ours-base l so g v j below-slots s o)
 
     run-off : (f : Fault) → judgement (common (header l s) (inputSize s place) (outputSize s place)) ≡ Refused f → runVcpu l s flags g v lent output effect exit ≡ refuse s output f
     run-off f e =
@@ -219,17 +219,17 @@ module _ (l : Layout) (so : Sound l) (g v j : ℕ) (below-slots : j < l .slots) 
     abbrev laid : List ℕ
     laid = put input 0 (message (pending (b .cache)))
 
-    abbrev refusedRun : Fault → Ran
+    abbrev refusedRun : Fault → RunOutcome
     refusedRun f = record { answer = refusal f; store = s; cache = b .cache; input = input; output = output }
 
-    abbrev goneOn : Ran
+    abbrev goneOn : RunOutcome
     goneOn = ranWith (b .cache) laid (runVcpu l s flags g v laid output effect exit)
 
     cached-as : runCache l s (b .cache) flags g v input output effect exit ≡ firstOf refusedRun (firsts ++ ends s) goneOn
     unfolding runCache
     cached-as =
         ap₂ (λ (t : Bool) (xs : List (Bool × Fault)). cond (not t) (refusedRun CacheBad) (firstOf refusedRun (xs ++ ends s) goneOn))
-        (cache-good l so g v j below-slots b p ws i) (spot-common s (i .ours) (length (message (pending (b .cache)))) (length input) need-fits refl)
+        (cache-good l so g v j below-slots b p ws i) (run-target-common s (i .ours) (length (message (pending (b .cache)))) (length input) need-fits refl)
 
     -- ---- the plain run: its input holds no element
     abbrev blank : List ℕ
@@ -290,7 +290,7 @@ module _ (l : Layout) (so : Sound l) (g v j : ℕ) (below-slots : j < l .slots) 
           ∙ left-by s (bytesAt laid 0 (inputSize s place)) cached-store
 
     -- ---- the turn, by what each side did
-    abbrev cachedOf : Ran → Turn Cached
+    abbrev cachedOf : RunOutcome → Turn Cached
     cachedOf r = record { shown = seen Name.CacheRun (r .answer) (r .output); next = record { cache = r .cache; store = r .store }; input = r .input }
 
     abbrev plainOf : Outcome → Turn (List ℕ)
@@ -299,7 +299,7 @@ module _ (l : Layout) (so : Sound l) (g v j : ℕ) (below-slots : j < l .slots) 
     abbrev op : Op
     op = Run flags input output effect exit
 
-    ran-turn : (r : Ran) (o : Outcome) → runCache l s (b .cache) flags g v input output effect exit ≡ r → runPlain l p flags g v input output effect exit ≡ o
+    ran-turn : (r : RunOutcome) (o : Outcome) → runCache l s (b .cache) flags g v input output effect exit ≡ r → runPlain l p flags g v input output effect exit ≡ o
         → Goes l so g v j below-slots b op ws (cachedOf r) (plainOf o) → Goes l so g v j below-slots b op ws (cachedTurn l g v op b) (plainTurn l g v op p)
     unfolding cachedTurn plainTurn
     ran-turn r o e q t = as-turned l so g v j below-slots b op ws _ _ _ _ (ap cachedOf e) (ap plainOf q) t

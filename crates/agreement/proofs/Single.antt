@@ -31,7 +31,7 @@ use Rattle.admission.specs.Target.{targetTests, baseOf}
 use Rattle.state.specs.State.{contextOf, isStopped, faultOf, bufferTests, setState, fillWith, getState}
 use Rattle.promises.proofs.States.{skip}
 use Rattle.l1.specs.Marks.{allowed, isInput, isReadable, isSpecial}
-use Rattle.l1.specs.Cache.{first, one, valueIn}
+use Rattle.l1.specs.Cache.{placeZero, one, valueIn}
 use Rattle.agreement.specs.Plain.{writePlain, readPlain}
 use Rattle.l1.proofs.Cells.{element-size, element-place, named-end, named-fits, allowed-as, set-as-input, get-as-readable, input-named, readable-named, valueOf}
 use Rattle.agreement.proofs.Ours.{base, Ours, ours-base, ours-room, ours-target}
@@ -67,33 +67,33 @@ module _ (l : Layout) (so : Sound l) (g v j : ℕ) (below : j < l .slots) (s : L
   module _ (long : ltb 65528 (length w) ≡ true) where
     pub write-long : writePlain l s g v id w ≡ refuse s [] Length
     unfolding writePlain decide
-    write-long = ap (λ (t : Bool). cond t (refuse s [] Length) (cond (isSpecial id) (refuse s [] (Element Id first)) (setState l s 0 g v (one id w)))) long
+    write-long = ap (λ (t : Bool). cond t (refuse s [] Length) (cond (isSpecial id) (refuse s [] (Element Id placeZero)) (setState l s 0 g v (one id w)))) long
 
     pub read-long : readPlain l s g v id w ≡ refuse s (one id w) Length
     unfolding readPlain decide
-    read-long = ap (λ (t : Bool). cond t (refuse s (one id w) Length) (cond (isSpecial id) (refuse s (one id w) (Element Id first)) (getState l s 0 g v (one id w)))) long
+    read-long = ap (λ (t : Bool). cond t (refuse s (one id w) Length) (cond (isSpecial id) (refuse s (one id w) (Element Id placeZero)) (getState l s 0 g v (one id w)))) long
 
   module _ (short : ltb 65528 (length w) ≡ false) where
     fits : length w < 2 ^ 16
     fits = omega (arith, ltb-false 65528 (length w) short)
 
     module _ (special : isSpecial id ≡ true) where
-      pub write-special : writePlain l s g v id w ≡ refuse s [] (Element Id first)
+      pub write-special : writePlain l s g v id w ≡ refuse s [] (Element Id placeZero)
       unfolding writePlain decide
-      write-special = ap₂ (λ (t u : Bool). cond t (refuse s [] Length) (cond u (refuse s [] (Element Id first)) (setState l s 0 g v (one id w)))) short special
+      write-special = ap₂ (λ (t u : Bool). cond t (refuse s [] Length) (cond u (refuse s [] (Element Id placeZero)) (setState l s 0 g v (one id w)))) short special
 
-      pub read-special : readPlain l s g v id w ≡ refuse s (one id w) (Element Id first)
+      pub read-special : readPlain l s g v id w ≡ refuse s (one id w) (Element Id placeZero)
       unfolding readPlain decide
-      read-special = ap₂ (λ (t u : Bool). cond t (refuse s (one id w) Length) (cond u (refuse s (one id w) (Element Id first)) (getState l s 0 g v (one id w)))) short special
+      read-special = ap₂ (λ (t u : Bool). cond t (refuse s (one id w) Length) (cond u (refuse s (one id w) (Element Id placeZero)) (getState l s 0 g v (one id w)))) short special
 
     module _ (common : isSpecial id ≡ false) (small : id < 2 ^ 16) where
       write-past : writePlain l s g v id w ≡ setState l s 0 g v (one id w)
       unfolding writePlain decide
-      write-past = ap₂ (λ (t u : Bool). cond t (refuse s [] Length) (cond u (refuse s [] (Element Id first)) (setState l s 0 g v (one id w)))) short common
+      write-past = ap₂ (λ (t u : Bool). cond t (refuse s [] Length) (cond u (refuse s [] (Element Id placeZero)) (setState l s 0 g v (one id w)))) short common
 
       read-past : readPlain l s g v id w ≡ getState l s 0 g v (one id w)
       unfolding readPlain decide
-      read-past = ap₂ (λ (t u : Bool). cond t (refuse s (one id w) Length) (cond u (refuse s (one id w) (Element Id first)) (getState l s 0 g v (one id w)))) short common
+      read-past = ap₂ (λ (t u : Bool). cond t (refuse s (one id w) Length) (cond u (refuse s (one id w) (Element Id placeZero)) (getState l s 0 g v (one id w)))) short common
 
       -- the buffer of one element, judged
       judged : {A : Type 0} (turn : Fault → A) (good : A) (usage : Usage) (r : Walked) → firstBad (contextOf l s usage) (one id w) ≡ r

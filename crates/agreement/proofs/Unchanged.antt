@@ -25,7 +25,7 @@ use Rattle.promises.specs.Promised.{Unchanged}
 use Rattle.promises.proofs.Kept.{refused-unchanged}
 use Rattle.promises.proofs.Told.{none-told}
 use Rattle.l1.specs.Marks.{Cache, valid, isInput, isReadable, goodCache}
-use Rattle.l1.specs.Cache.{valueTests, Wrote, change, writeCache, Got, keep, one, valueIn, fetched, readCache, pending, Ran, ranWith, runCache}
+use Rattle.l1.specs.Cache.{valueTests, WriteOutcome, change, writeCache, ReadOutcome, keep, one, valueIn, fetched, readCache, pending, RunOutcome, ranWith, runCache}
 use Rattle.l1.proofs.Running.{passed-judged, run-accepted}
 use Rattle.agreement.specs.Refused.{Unread, Unrun}
 
@@ -33,13 +33,13 @@ use Rattle.agreement.specs.Refused.{Unread, Unrun}
 pub write-unchanged : (c : Cache) (id : ℕ) (v : List ℕ) → (writeCache c id v .answer .fault ≡ None → ⊥) → writeCache c id v .cache ≡ c
 unfolding writeCache
 write-unchanged c id v =
-    each-way (λ (w : Wrote). (w .answer .fault ≡ None → ⊥) → w .cache ≡ c) (λ f. record { answer = refusal f; cache = c })
+    each-way (λ (w : WriteOutcome). (w .answer .fault ≡ None → ⊥) → w .cache ≡ c) (λ f. record { answer = refusal f; cache = c })
     ((not (goodCache c), CacheBad) ∷ valueTests (isInput id) id v) (record { answer = success 0; cache = change c id v })
     (λ f n. refl) (λ p n. absurd (n refl))
 
 -- ---- read
 module _ (l : Layout) (s : List ℕ) (guest vcpu : ℕ) (c : Cache) (id : ℕ) (v : List ℕ) where
-  abbrev served : Got
+  abbrev served : ReadOutcome
   served = record { answer = success 0; cache = c; value = bytesAt (c .values) (elementOf id .position) (elementOf id .size) }
 
   abbrev got : Outcome
@@ -74,7 +74,7 @@ module _ (s : List ℕ) (c : Cache) (flags guest vcpu : ℕ) (input output effec
   abbrev tests : List (Bool × Fault)
   tests = cachedTests small s flags guest vcpu (length (message (pending c))) (length input) (length output) effect exit
 
-  abbrev gone : Ran
+  abbrev gone : RunOutcome
   gone = ranWith c laid (runVcpu small s flags guest vcpu laid output effect exit)
 
   -- past its tests a run of the cache is accepted: the input that it wrote is good

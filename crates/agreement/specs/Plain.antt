@@ -13,11 +13,11 @@ use Rattle.admission.specs.Refusals.{Outcome, decide}
 use Rattle.state.specs.State.{getState, setState}
 use Rattle.run.specs.Run.{runVcpu}
 use Rattle.l1.specs.Marks.{isSpecial}
-use Rattle.l1.specs.Cache.{first, one}
+use Rattle.l1.specs.Cache.{placeZero, one}
 
 -- "Write and read: 5 over 65,528 bytes; 6 for the NOP, 0x0C00 and 0x0C01;"
 abbrev pub plainTests : ℕ → List ℕ → List (Bool × Fault)
-plainTests id v = (ltb 65528 (length v), Length) ∷ (isSpecial id, Element Id first) ∷ []
+plainTests id v = (ltb 65528 (length v), Length) ∷ (isSpecial id, Element Id placeZero) ∷ []
 
 -- "else thread set or get state with a buffer of one element: the ID, the length as size, the bytes given."
 unfoldable pub writePlain : Layout → List ℕ → ℕ → ℕ → ℕ → List ℕ → Outcome

@@ -13,7 +13,7 @@ use Rattle.rules.specs.declared.Context.{Context}
 use Rattle.gsb.specs.declared.Verdict.{Verdict}
 use Rattle.gsb.specs.declared.Verdict.the-variants.{Good, Faulty}
 use Rattle.gsb.specs.declared.Walked.the-variants.{Done, Stopped}
-use Rattle.gsb.specs.Walk.{countOf, offsetAt, judged, after, walk, firstBad}
+use Rattle.gsb.specs.Walk.{countOf, offsetAt, judged, walkOn, walk, firstBad}
 use Rattle.gsb.specs.First.{FirstBadAt, AllGood}
 use Rattle.gsb.proofs.Judged.{good-element}
 use Rattle.gsb.proofs.Walks.{walk-end, walk-good, walk-bad, after-good, after-bad, offset-start, offset-next, first-start}
@@ -38,7 +38,7 @@ module _ (k : Context) (b : List ℕ) where
     -- this element, once those after it are settled
     step : (n i : ℕ) (v : Verdict) → judged k b (offsetAt b i) ≡ v
         → (walk (judged k b) n (i + 1) (offsetAt b (i + 1)) ≡ Stopped bad place → FirstFrom k b (i + 1) n bad place)
-        → after v i (offsetAt b i) (λ next. walk (judged k b) n (i + 1) next) ≡ Stopped bad place → FirstFrom k b i (suc n) bad place
+        → walkOn v i (offsetAt b i) (λ next. walk (judged k b) n (i + 1) next) ≡ Stopped bad place → FirstFrom k b i (suc n) bad place
     step n i (Good next) g ih e =
         let o : next ≡ offsetAt b (i + 1) = next-offset i next g in
         let f = ih (ap (λ (x : ℕ). walk (judged k b) n (i + 1) x) (sym o) ∙ sym (after-good next i (offsetAt b i) (λ x. walk (judged k b) n (i + 1) x)) ∙ e) in

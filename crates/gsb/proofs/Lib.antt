@@ -5,4 +5,4 @@ pub mod First
 pub mod Messages
 pub mod RoundTrip
 mod Registers
-pub mod Lookups
+pub mod LookupLaws

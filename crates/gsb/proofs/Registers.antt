@@ -21,8 +21,8 @@ use Rattle.gsb.specs.declared.Verdict.{Verdict}
 use Rattle.gsb.specs.declared.Verdict.the-variants.{Good, Faulty}
 use Rattle.gsb.specs.declared.Walked.{Walked}
 use Rattle.gsb.specs.declared.Walked.the-variants.{Done}
-use Rattle.gsb.specs.Walk.{countOf, idAt, sizeAt, judged, after, walk, firstBad}
-use Rattle.gsb.specs.Private.{reachOf, Hasty, Skipped}
+use Rattle.gsb.specs.Walk.{countOf, idAt, sizeAt, judged, walkOn, walk, firstBad}
+use Rattle.gsb.specs.Private.{reachOf, QuickVerdict, Skipped}
 use Rattle.gsb.proofs.Judged.{judged-good, empty-good}
 use Rattle.gsb.proofs.Walks.{walk-end, turn-good, turn-bad, turn-end, first-start}
 
@@ -49,7 +49,7 @@ module _ (b : List ℕ) (at key room : ℕ) (lent : room ≤ length b) (fits : a
       go false h = absurd (omega arith)
 
   -- an element that ends where the law says, and is judged so in each use
-  hasty : (next : ℕ) → next ≤ room → ((k : Context) → room ≡ reachOf (k .usage) b → Good next ≡ judged k b at) → Hasty (Good next) room b at
+  hasty : (next : ℕ) → next ≤ room → ((k : Context) → room ≡ reachOf (k .usage) b → Good next ≡ judged k b at) → QuickVerdict (Good next) room b at
   hasty next h f = (omega arith, f)
 
   double : 0x81000 ≤ key → key ≤ 0x81053 → (key ≡ 0x8103A → ⊥) → (k : Context) → room ≡ reachOf (k .usage) b → Good (at + 12) ≡ judged k b at
@@ -62,7 +62,7 @@ module _ (b : List ℕ) (at key room : ℕ) (lent : room ≤ length b) (fits : a
       (kind-register (idAt b at) _ ReadWrite refl (register-read (idAt b at) (λ q. h (omega arith))) (omega arith) (omega arith))
       s (omega arith)
 
-  pub quick-double : (r : Bool) → r ≡ between 0x81000 0x81053 key → r ≡ true → (key ≡ 0x8103A → ⊥) → Hasty (Good (at + 12)) room b at
+  pub quick-double : (r : Bool) → r ≡ between 0x81000 0x81053 key → r ≡ true → (key ≡ 0x8103A → ⊥) → QuickVerdict (Good (at + 12)) room b at
   quick-double r p q h =
       let f : between 0x81000 0x81053 key ≡ true = sym p ∙ q in
       hasty (at + 12) fits (double (between-low 0x81000 0x81053 key f) (between-high 0x81000 0x81053 key f) h)
@@ -76,7 +76,7 @@ module _ (b : List ℕ) (at key room : ℕ) (lent : room ≤ length b) (fits : a
       ∙ plain k b at (is-thread k u) (omega arith) 16 (772 + 16 * (idAt b at - 0x3000)) refl
       (kind-vector (idAt b at) (omega arith) (omega arith)) s (omega arith)
 
-  pub quick-vector : (r : Bool) → r ≡ between 0x103000 0x10303F key → r && leb (at + 20) room ≡ true → Hasty (Good (at + 20)) room b at
+  pub quick-vector : (r : Bool) → r ≡ between 0x103000 0x10303F key → r && leb (at + 20) room ≡ true → QuickVerdict (Good (at + 20)) room b at
   quick-vector r p q =
       let f : between 0x103000 0x10303F key ≡ true = sym p ∙ and-left r _ q in
       let long : at + 20 ≤ room = leb-true _ _ (and-right r _ q) in
@@ -91,14 +91,14 @@ module _ (b : List ℕ) (at key room : ℕ) (lent : room ≤ length b) (fits : a
       ∙ plain k b at (is-thread k u) (omega arith) 4 (712 + 4 * (idAt b at - 0x2000)) refl
       (kind-word (idAt b at) (omega arith) (omega arith)) s (omega arith)
 
-  pub quick-word : (r : Bool) → r ≡ between 0x42000 0x4200E key → r ≡ true → Hasty (Good (at + 8)) room b at
+  pub quick-word : (r : Bool) → r ≡ between 0x42000 0x4200E key → r ≡ true → QuickVerdict (Good (at + 8)) room b at
   quick-word r p q =
       let f : between 0x42000 0x4200E key ≡ true = sym p ∙ q in
       hasty (at + 8) (omega arith) (word (between-low 0x42000 0x4200E key f) (between-high 0x42000 0x4200E key f))
 
 -- an empty NOP, in every use
 pub quick-empty : (b : List ℕ) (at key room : ℕ) → room ≤ length b → at + 12 ≤ room → key ≡ sizeAt b at * 2 ^ 16 + idAt b at → key ≡ 0
-    → Hasty (Good (at + 4)) room b at
+    → QuickVerdict (Good (at + 4)) room b at
 quick-empty b at key room lent fits e z = (omega arith, λ k u. empty-good k b at (omega arith) (omega arith) (omega arith))
 
 -- ---- the reach
@@ -121,15 +121,15 @@ module _ (b : List ℕ) (count room : ℕ) (from : Place) where
   pub left-start : Left (from .index) (from .offset)
   left-start k u = refl
 
-  hasty-of : (at next : ℕ) (v : Verdict) → Hasty v room b at → v ≡ Good next → Hasty (Good next) room b at
-  hasty-of at next v h e = subst (λ (x : Verdict). Hasty x room b at) e h
+  hasty-of : (at next : ℕ) (v : Verdict) → QuickVerdict v room b at → v ≡ Good next → QuickVerdict (Good next) room b at
+  hasty-of at next v h e = subst (λ (x : Verdict). QuickVerdict x room b at) e h
 
-  pub left-next : (i at next : ℕ) (v : Verdict) → Left i at → i < count → Hasty v room b at → v ≡ Good next → Left (i + 1) next
+  pub left-next : (i at next : ℕ) (v : Verdict) → Left i at → i < count → QuickVerdict v room b at → v ≡ Good next → Left (i + 1) next
   left-next i at next v f h y e k u =
       turn-good (judged k b) count i at (walk (judged k b) (count - from .index) (from .index) (from .offset)) (Good next) next (f k u) h
       (hasty-of at next v y e .1 k u) refl
 
-  pub left-inside : (at next : ℕ) (v : Verdict) → Hasty v room b at → v ≡ Good next → next ≤ length b
+  pub left-inside : (at next : ℕ) (v : Verdict) → QuickVerdict v room b at → v ≡ Good next → next ≤ length b
   left-inside at next v y e = hasty-of at next v y e .0
 
   pub skipped : (i at : ℕ) → from .index ≤ i → i ≤ count → at ≤ length b → Left i at → Skipped b count room from (record { index = i; offset = at })
@@ -149,5 +149,5 @@ module _ (k : Context) (b : List ℕ) (count room : ℕ) (w : Walked) (from to :
     pub skip-good : (next : ℕ) → v ≡ Good next → w ≡ walk (judged k b) (count - (to .index + 1)) (to .index + 1) next
     skip-good next g = turn-good (judged k b) count (to .index) (to .offset) w v next (e ∙ s .same k u) h j g
 
-    pub skip-bad : (bad : Bad) (x : Walked) → v ≡ Faulty bad → x ≡ after v (to .index) (to .offset) (λ next. Done) → x ≡ w
+    pub skip-bad : (bad : Bad) (x : Walked) → v ≡ Faulty bad → x ≡ walkOn v (to .index) (to .offset) (λ next. Done) → x ≡ w
     skip-bad bad x g y = turn-bad (judged k b) count (to .index) (to .offset) w v bad x (e ∙ s .same k u) h j g y

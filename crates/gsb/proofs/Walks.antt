@@ -1,4 +1,4 @@
--- The laws of the walk, over the judge: nothing else opens `walk`, `after` and `offsetAt`. Assumes nothing.
+-- The laws of the walk, over the judge: nothing else opens `walk`, `walkOn` and `offsetAt`. Assumes nothing.
 use mathlib.Core.Path.{_≡_, refl, sym, ap, _∙_}
 use mathlib.Core.Bool.{Bool, true, false, _||_, true≢false}
 use mathlib.Core.List.{List}
@@ -14,7 +14,7 @@ use Rattle.gsb.specs.declared.Verdict.{Verdict}
 use Rattle.gsb.specs.declared.Verdict.the-variants.{Good, Faulty}
 use Rattle.gsb.specs.declared.Walked.{Walked}
 use Rattle.gsb.specs.declared.Walked.the-variants.{Done, Stopped}
-use Rattle.gsb.specs.Walk.{countOf, nextAt, offsetAt, badLength, judged, after, walk, firstBad}
+use Rattle.gsb.specs.Walk.{countOf, nextAt, offsetAt, badLength, judged, walkOn, walk, firstBad}
 
 -- the walk as a loop that counts i up to count has it
 module _ (judge : ℕ → Verdict) (count i at : ℕ) where
@@ -24,26 +24,26 @@ module _ (judge : ℕ → Verdict) (count i at : ℕ) where
       let e : count - i ≡ 0 = omega arith in
       ap (λ (n : ℕ). walk judge n i at) e
 
-  turn : i < count → walk judge (count - i) i at ≡ after (judge at) i at (λ next. walk judge (count - (i + 1)) (i + 1) next)
+  turn : i < count → walk judge (count - i) i at ≡ walkOn (judge at) i at (λ next. walk judge (count - (i + 1)) (i + 1) next)
   unfolding walk
   turn h =
       let e : count - i ≡ suc (count - (i + 1)) = omega arith in
       ap (λ (n : ℕ). walk judge n i at) e
 
   pub walk-good : (next : ℕ) → i < count → judge at ≡ Good next → walk judge (count - i) i at ≡ walk judge (count - (i + 1)) (i + 1) next
-  unfolding after
-  walk-good next h e = turn h ∙ ap (λ (v : Verdict). after v i at (λ next. walk judge (count - (i + 1)) (i + 1) next)) e
+  unfolding walkOn
+  walk-good next h e = turn h ∙ ap (λ (v : Verdict). walkOn v i at (λ next. walk judge (count - (i + 1)) (i + 1) next)) e
 
   pub walk-bad : (bad : Bad) → i < count → judge at ≡ Faulty bad → walk judge (count - i) i at ≡ Stopped bad (record { index = i; offset = at })
-  unfolding after
-  walk-bad bad h e = turn h ∙ ap (λ (v : Verdict). after v i at (λ next. walk judge (count - (i + 1)) (i + 1) next)) e
+  unfolding walkOn
+  walk-bad bad h e = turn h ∙ ap (λ (v : Verdict). walkOn v i at (λ next. walk judge (count - (i + 1)) (i + 1) next)) e
 
-pub after-bad : (bad : Bad) (i at : ℕ) (go : ℕ → Walked) → after (Faulty bad) i at go ≡ Stopped bad (record { index = i; offset = at })
-unfolding after
+pub after-bad : (bad : Bad) (i at : ℕ) (go : ℕ → Walked) → walkOn (Faulty bad) i at go ≡ Stopped bad (record { index = i; offset = at })
+unfolding walkOn
 after-bad bad i at go = refl
 
-pub after-good : (next i at : ℕ) (go : ℕ → Walked) → after (Good next) i at go ≡ go next
-unfolding after
+pub after-good : (next i at : ℕ) (go : ℕ → Walked) → walkOn (Good next) i at go ≡ go next
+unfolding walkOn
 after-good next i at go = refl
 
 -- ---- the same in the form of a loop's needs
@@ -51,9 +51,9 @@ module _ (judge : ℕ → Verdict) (count i at : ℕ) (w : Walked) where
   pub turn-good : (v : Verdict) (next : ℕ) → w ≡ walk judge (count - i) i at → i < count → v ≡ judge at → v ≡ Good next → w ≡ walk judge (count - (i + 1)) (i + 1) next
   turn-good v next e h j g = e ∙ walk-good judge count i at next h (sym j ∙ g)
 
-  pub turn-bad : (v : Verdict) (bad : Bad) (x : Walked) → w ≡ walk judge (count - i) i at → i < count → v ≡ judge at → v ≡ Faulty bad → x ≡ after v i at (λ next. Done) → x ≡ w
+  pub turn-bad : (v : Verdict) (bad : Bad) (x : Walked) → w ≡ walk judge (count - i) i at → i < count → v ≡ judge at → v ≡ Faulty bad → x ≡ walkOn v i at (λ next. Done) → x ≡ w
   turn-bad v bad x e h j g y =
-      y ∙ ap (λ (z : Verdict). after z i at (λ next. Done)) g ∙ after-bad bad i at (λ next. Done) ∙ sym (e ∙ walk-bad judge count i at bad h (sym j ∙ g))
+      y ∙ ap (λ (z : Verdict). walkOn z i at (λ next. Done)) g ∙ after-bad bad i at (λ next. Done) ∙ sym (e ∙ walk-bad judge count i at bad h (sym j ∙ g))
 
   pub turn-end : w ≡ walk judge (count - i) i at → count ≤ i → Done ≡ w
   turn-end e h = sym (e ∙ walk-end judge count i at h)
@@ -66,11 +66,11 @@ first-start k b count e =
 
 -- the answers of `stop`
 module _ (v : Verdict) (i at : ℕ) where
-  pub stop-good : (next : ℕ) → v ≡ Good next → Done ≡ after v i at (λ next. Done)
-  stop-good next e = sym (ap (λ (z : Verdict). after z i at (λ next. Done)) e ∙ after-good next i at (λ next. Done))
+  pub stop-good : (next : ℕ) → v ≡ Good next → Done ≡ walkOn v i at (λ next. Done)
+  stop-good next e = sym (ap (λ (z : Verdict). walkOn z i at (λ next. Done)) e ∙ after-good next i at (λ next. Done))
 
-  pub stop-bad : (bad : Bad) → v ≡ Faulty bad → Stopped bad (record { index = i; offset = at }) ≡ after v i at (λ next. Done)
-  stop-bad bad e = sym (ap (λ (z : Verdict). after z i at (λ next. Done)) e ∙ after-bad bad i at (λ next. Done))
+  pub stop-bad : (bad : Bad) → v ≡ Faulty bad → Stopped bad (record { index = i; offset = at }) ≡ walkOn v i at (λ next. Done)
+  stop-bad bad e = sym (ap (λ (z : Verdict). walkOn z i at (λ next. Done)) e ∙ after-bad bad i at (λ next. Done))
 
 -- ---- where the elements start
 module _ (b : List ℕ) (i at : ℕ) where

@@ -14,9 +14,9 @@ use Rattle.gsb.specs.declared.Verdict.{Verdict}
 use Rattle.gsb.specs.declared.Verdict.the-variants.{Good, Faulty}
 use Rattle.gsb.specs.declared.Walked.{Walked}
 use Rattle.gsb.specs.declared.Walked.the-variants.{Done, Stopped}
-use Rattle.gsb.specs.declared.finding.Last.{Last}
-use Rattle.gsb.specs.declared.finding.Last.the-variants.{Nowhere, At}
-use Rattle.gsb.specs.declared.finding.Found.{Found}
+use Rattle.gsb.specs.declared.lookups.Last.{Last}
+use Rattle.gsb.specs.declared.lookups.Last.the-variants.{Nowhere, At}
+use Rattle.gsb.specs.declared.lookups.Found.{Found}
 use Rattle.gsb.specs.Walk.{countOf, idAt, sizeAt, nextAt, offsetAt, badLength, walk}
 
 -- "It answers 5 or 7 as above, only for cut elements": "Listed sizes and scopes are not tested."

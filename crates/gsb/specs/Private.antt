@@ -17,9 +17,9 @@ abbrev pub reachOf : Usage → List ℕ → ℕ
 reachOf usage b = cond (ofThread usage) (length b) 0
 
 -- a verdict that may be the element's, in each use of which `room` is the reach; a fault says nothing
-abbrev pub Hasty : Verdict → ℕ → List ℕ → ℕ → Type 0
-Hasty (Good next) room b at = (next ≤ length b) × ((k : Context) → room ≡ reachOf (k .usage) b → Good next ≡ judged k b at)
-Hasty (Faulty bad) room b at = Unit {0}
+abbrev pub QuickVerdict : Verdict → ℕ → List ℕ → ℕ → Type 0
+QuickVerdict (Good next) room b at = (next ≤ length b) × ((k : Context) → room ≡ reachOf (k .usage) b → Good next ≡ judged k b at)
+QuickVerdict (Faulty bad) room b at = Unit {0}
 
 -- from one place to another of the same walk, in each such use
 pub record Skipped (b : List ℕ) (count room : ℕ) (from to : Place) : Type 0 where

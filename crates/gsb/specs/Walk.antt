@@ -51,14 +51,14 @@ judged k b at =
     (Good (nextAt b at))
 
 -- the element at `at` was judged; `go` is the walk over those after it
-unfoldable pub after : Verdict → ℕ → ℕ → (ℕ → Walked) → Walked
-after (Good next) index at go = go next
-after (Faulty bad) index at go = Stopped bad (record { index = index; offset = at })
+unfoldable pub walkOn : Verdict → ℕ → ℕ → (ℕ → Walked) → Walked
+walkOn (Good next) index at go = go next
+walkOn (Faulty bad) index at go = Stopped bad (record { index = index; offset = at })
 
 -- "The walk takes the next element or stops, and leaves at the first bad one": n elements, the first of them at `at`
 unfoldable pub walk : (ℕ → Verdict) → ℕ → ℕ → ℕ → Walked
 walk judge zero index at = Done
-walk judge (suc n) index at = after (judge at) index at (λ next. walk judge n (index + 1) next)
+walk judge (suc n) index at = walkOn (judge at) index at (λ next. walk judge n (index + 1) next)
 
 -- all that are counted
 unfoldable pub firstBad : Context → List ℕ → Walked

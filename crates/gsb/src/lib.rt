@@ -1,18 +1,18 @@
 // The guest state buffer: one element judged, and one written. `walk` judges all that are counted; what the three mean is
 // defined here.
-mod finding;
 mod judging;
+mod lookups;
 mod walk;
 mod write;
 
 use answer::Bad;
 use answer::Place;
-pub use finding::Found;
-pub use finding::Last;
-pub use finding::lookup;
-pub use finding::lookup_value;
 pub use judging::bad_length;
 pub use judging::judge;
+pub use lookups::Found;
+pub use lookups::Last;
+pub use lookups::lookup;
+pub use lookups::lookup_value;
 pub use walk::first_bad;
 pub use write::put_element;
 

@@ -14,12 +14,12 @@ ghost use mathlib.Core.Path.{_≡_};
 ghost use Prim.Native.Nat.{_+_, _≤_, _<_};
 ghost use lib.ListN.{length};
 ghost use Rattle.gsb.specs.declared.Walked.the-variants.{Done};
-ghost use Rattle.gsb.specs.Private.{reachOf, Hasty, Skipped};
-ghost use Rattle.gsb.specs.Walk.{judged, after, firstBad};
+ghost use Rattle.gsb.specs.Private.{reachOf, QuickVerdict, Skipped};
+ghost use Rattle.gsb.specs.Walk.{judged, walkOn, firstBad};
 
 // What a verdict that is not good makes of the walk.
 fn stop(verdict: Verdict, index: usize, offset: usize) -> Walked
-    ensures { λ r. ⌜ r ≡ after verdict index offset (λ next. Done) ⌝ }
+    ensures { λ r. ⌜ r ≡ walkOn verdict index offset (λ next. Done) ⌝ }
 {
     match verdict {
         Verdict::Good(_) => Walked::Done,
@@ -41,7 +41,7 @@ fn reach(b: &[u8], usage: Usage) -> usize
 // well within `room`, which is `reach`. A fault is no verdict: it leaves them to `judge`.
 fn quick(b: &[u8], at: usize, room: usize) -> Verdict
     requires { ⌜ (at ≤ length (now b)) × (room ≤ length (now b)) ⌝ }
-    ensures { λ r. ⌜ Hasty r room (now (b .entry)) at ⌝ }
+    ensures { λ r. ⌜ QuickVerdict r room (now (b .entry)) at ⌝ }
 {
     if room < at + 12 {
         return Verdict::Faulty(Bad::Size);

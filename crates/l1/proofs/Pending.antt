@@ -22,7 +22,7 @@ use Rattle.store.specs.Search.{every, first, tally}
 use Rattle.store.proofs.Search.{both, every-at, first-bounds, first-found, found-first, first-none}
 use Rattle.l1.specs.Marks.{Cache, isMarked, valid, changed, isInput, markGood, goodCache}
 use Rattle.l1.specs.Cache.{chosen, pending}
-use Rattle.l1.specs.MarksPrivate.{isChanged}
+use Rattle.l1.specs.Private.{isChanged}
 use Rattle.l1.proofs.Marking.{values-long, marks-long}
 use Rattle.l1.proofs.Values.{number-inside, number-small, number-back}
 

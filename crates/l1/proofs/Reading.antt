@@ -30,7 +30,7 @@ use Rattle.admission.specs.Refusals.{success, refusal, judgement}
 use Rattle.state.specs.State.{gotElement}
 use Rattle.admission.proofs.Judging.{all-refused, all-admitted}
 use Rattle.l1.specs.Marks.{Cache, isMarked, allowed, isReadable, isSpecial}
-use Rattle.l1.specs.Cache.{Got, keep, fetched, readCache}
+use Rattle.l1.specs.Cache.{ReadOutcome, keep, fetched, readCache}
 use Rattle.l1.specs.Private.{elementTests, elementGood, readValue}
 use Rattle.l1.proofs.Values.{number-inside, readable-thread, thread-number}
 
@@ -61,24 +61,24 @@ module _ (s : List ℕ) (guest vcpu id : ℕ) (vs ms v w : List ℕ) (r : Answer
   abbrev c : Cache
   c = record { values = vs; marks = ms }
 
-  fetched-as : (b : Bool) → t ≡ b → _≡_ {A = Got} (record { answer = r; cache = cond b (keep c id w) c; value = w }) (fetched c id (length v) (gotElement s guest vcpu id v))
+  fetched-as : (b : Bool) → t ≡ b → _≡_ {A = ReadOutcome} (record { answer = r; cache = cond b (keep c id w) c; value = w }) (fetched c id (length v) (gotElement s guest vcpu id v))
   unfolding fetched
   fetched-as b h =
       ap (λ (y : Bool). record { answer = r; cache = cond y (keep c id w) c; value = w }) (sym h ∙ p)
       ∙ ap₂ (λ (x : Answer) (y : List ℕ). record { answer = x; cache = cond (accepted (told CacheRead (x .fault) (x .value))) (keep c id y) c; value = y }) e q
 
-  pub fetch-refused : not t ≡ true → _≡_ {A = Got} (record { answer = r; cache = record { values = vs; marks = ms }; value = w }) (fetched (record { values = vs; marks = ms }) id (length v) (gotElement s guest vcpu id v))
+  pub fetch-refused : not t ≡ true → _≡_ {A = ReadOutcome} (record { answer = r; cache = record { values = vs; marks = ms }; value = w }) (fetched (record { values = vs; marks = ms }) id (length v) (gotElement s guest vcpu id v))
   fetch-refused n = fetched-as false (not-true t n)
 
 pub fetch-kept : (s : List ℕ) (guest vcpu id : ℕ) (vs ms v w us ns : List ℕ) (r : Answer) (t : Bool) → _≡_ {A = Cache} (record { values = us; marks = ns }) (keep (record { values = vs; marks = ms }) id w) → not t ≡ false → t ≡ accepted (told CacheRead (r .fault) (r .value))
     → r ≡ gotElement s guest vcpu id v .answer → w ≡ bytesAt (gotElement s guest vcpu id v .buffer) 8 (length v)
-    → _≡_ {A = Got} (record { answer = r; cache = record { values = us; marks = ns }; value = w }) (fetched (record { values = vs; marks = ms }) id (length v) (gotElement s guest vcpu id v))
+    → _≡_ {A = ReadOutcome} (record { answer = r; cache = record { values = us; marks = ns }; value = w }) (fetched (record { values = vs; marks = ms }) id (length v) (gotElement s guest vcpu id v))
 fetch-kept s guest vcpu id vs ms v w us ns r t k n p e q =
     ap (λ (d : Cache). record { answer = r; cache = d; value = w }) k ∙ fetched-as s guest vcpu id vs ms v w r e q t p true (not-false t n)
 
 -- ---- a read past its tests
 module _ (s : List ℕ) (guest vcpu : ℕ) (vs ms : List ℕ) (id : ℕ) (v : List ℕ) (k : ℕ) (m : k ≡ numberOf id) (y : Bool) (p : y ≡ isMarked ms k) where
-  abbrev answered : Bool → Got
+  abbrev answered : Bool → ReadOutcome
   answered b =
       cond b (record { answer = success 0; cache = record { values = vs; marks = ms }; value = bytesAt vs (elementOf id .position) (elementOf id .size) })
       (fetched (record { values = vs; marks = ms }) id (length v) (gotElement s guest vcpu id v))
@@ -88,12 +88,12 @@ module _ (s : List ℕ) (guest vcpu : ℕ) (vs ms : List ℕ) (id : ℕ) (v : Li
   value-as b q = ap answered (sym (p ∙ ap (isMarked ms) m) ∙ q)
 
   pub value-fetched : (r : Answer) (us ns u : List ℕ) → not y ≡ true
-      → _≡_ {A = Got} (record { answer = r; cache = record { values = us; marks = ns }; value = u }) (fetched (record { values = vs; marks = ms }) id (length v) (gotElement s guest vcpu id v))
-      → _≡_ {A = Got} (record { answer = r; cache = record { values = us; marks = ns }; value = u }) (readValue s guest vcpu (record { values = vs; marks = ms }) id v)
+      → _≡_ {A = ReadOutcome} (record { answer = r; cache = record { values = us; marks = ns }; value = u }) (fetched (record { values = vs; marks = ms }) id (length v) (gotElement s guest vcpu id v))
+      → _≡_ {A = ReadOutcome} (record { answer = r; cache = record { values = us; marks = ns }; value = u }) (readValue s guest vcpu (record { values = vs; marks = ms }) id v)
   value-fetched r us ns u n w = w ∙ sym (value-as false (not-true y n))
 
   pub value-valid : (r : Answer) (z : Thing) (u : List ℕ) → not y ≡ false → z ≡ elementOf id → length v ≡ elementOf id .size → isReadable id ≡ true → length vs ≡ 1820 → u ≡ put v 0 (bytesAt vs (z .position) (z .size)) → r ≡ success 0
-      → _≡_ {A = Got} (record { answer = r; cache = record { values = vs; marks = ms }; value = u }) (readValue s guest vcpu (record { values = vs; marks = ms }) id v)
+      → _≡_ {A = ReadOutcome} (record { answer = r; cache = record { values = vs; marks = ms }; value = u }) (readValue s guest vcpu (record { values = vs; marks = ms }) id v)
   value-valid r z u n w l o j d i =
       let room : elementOf id .position + elementOf id .size ≤ length vs = omega (arith, number-inside (numberOf id) (readable-number id o)) in
       let long = length-bytesAt vs (elementOf id .position) (elementOf id .size) room in
@@ -118,7 +118,7 @@ module _ (s : List ℕ) (guest vcpu : ℕ) (vs ms : List ℕ) (id : ℕ) (v : Li
   abbrev before : Cache
   before = record { values = vs; marks = ms }
 
-  abbrev refused : Fault → Got
+  abbrev refused : Fault → ReadOutcome
   refused f = record { answer = refusal f; cache = before; value = v }
 
   judged : judgement (elementTests before (isReadable id) id v) ≡ a
@@ -130,12 +130,12 @@ module _ (s : List ℕ) (guest vcpu : ℕ) (vs ms : List ℕ) (id : ℕ) (v : Li
   read-as = refl
 
   pub read-bad : (f : Fault) → a ≡ Refused f → r ≡ refusal f
-      → _≡_ {A = Got} (record { answer = r; cache = record { values = vs; marks = ms }; value = v }) (readCache small s guest vcpu (record { values = vs; marks = ms }) id v)
+      → _≡_ {A = ReadOutcome} (record { answer = r; cache = record { values = vs; marks = ms }; value = v }) (readCache small s guest vcpu (record { values = vs; marks = ms }) id v)
   read-bad f h i =
       ap (λ (y : Answer). record { answer = y; cache = before; value = v }) i
       ∙ sym (read-as ∙ all-refused refused (readValue s guest vcpu before id v) (elementTests before (isReadable id) id v) f (judged ∙ h))
 
   pub read-good : (us ns u : List ℕ) → a ≡ Admitted
-      → _≡_ {A = Got} (record { answer = r; cache = record { values = us; marks = ns }; value = u }) (readValue s guest vcpu (record { values = vs; marks = ms }) id v)
-      → _≡_ {A = Got} (record { answer = r; cache = record { values = us; marks = ns }; value = u }) (readCache small s guest vcpu (record { values = vs; marks = ms }) id v)
+      → _≡_ {A = ReadOutcome} (record { answer = r; cache = record { values = us; marks = ns }; value = u }) (readValue s guest vcpu (record { values = vs; marks = ms }) id v)
+      → _≡_ {A = ReadOutcome} (record { answer = r; cache = record { values = us; marks = ns }; value = u }) (readCache small s guest vcpu (record { values = vs; marks = ms }) id v)
   read-good us ns u h w = w ∙ sym (read-as ∙ all-admitted refused (readValue s guest vcpu before id v) (elementTests before (isReadable id) id v) (judged ∙ h))

@@ -35,12 +35,12 @@ use Rattle.admission.specs.declared.Admission.the-variants.{Admitted, Refused}
 use Rattle.admission.specs.Refusals.{Outcome, refusal, refuse, decide, judgement, Passed}
 use Rattle.admission.specs.Target.{baseOf}
 use Rattle.state.specs.State.{contextOf, isStopped, faultOf}
-use Rattle.run.specs.Run.{inputSize, exitTests, spotTests, inputOf, contentTests, cachedTests, cachedGood, ranStore, ran, runVcpu}
+use Rattle.run.specs.Run.{inputSize, exitTests, runTargetTests, inputOf, contentTests, cachedTests, cachedGood, ranStore, ran, runVcpu}
 use Rattle.admission.proofs.Judging.{begin-admitted, all-refused, all-admitted, judged-passed}
-use Rattle.run.proofs.Runs.{Spotted, spotted}
+use Rattle.run.proofs.Runs.{RunFound, run-found}
 use Rattle.l1.specs.Marks.{Cache, valid, changed, isInput, markGood, goodCache}
-use Rattle.l1.specs.Cache.{chosen, pending, refreshed, Ran, ranWith, runCache}
-use Rattle.l1.specs.MarksPrivate.{isChanged}
+use Rattle.l1.specs.Cache.{chosen, pending, refreshed, RunOutcome, ranWith, runCache}
+use Rattle.l1.specs.Private.{isChanged}
 use Rattle.l1.proofs.Marking.{values-long, marks-long}
 use Rattle.l1.proofs.Pending.{weighed}
 use Rattle.l1.proofs.Cells.{number-named, length-value}
@@ -113,10 +113,10 @@ module _ (s vs ms input output effect : List ℕ) (flags guest vcpu exit : ℕ) 
   abbrev laid : List ℕ
   laid = put input 0 (message (pending c))
 
-  abbrev refusedRun : Fault → Ran
+  abbrev refusedRun : Fault → RunOutcome
   refusedRun f = record { answer = refusal f; store = s; cache = c; input = input; output = output }
 
-  abbrev goneOn : Ran
+  abbrev goneOn : RunOutcome
   goneOn = ranWith c laid (runVcpu small s flags guest vcpu laid output effect exit)
 
   run-as : runCache small s c flags guest vcpu input output effect exit ≡ firstOf refusedRun tests goneOn
@@ -135,7 +135,7 @@ module _ (s vs ms input output effect : List ℕ) (flags guest vcpu exit : ℕ) 
     run-admitted h = same-tests ∙ h
 
     pub run-refused : (r : Answer) (f : Fault) → a ≡ Refused f → r ≡ refusal f
-        → _≡_ {A = Ran} (record { answer = r; store = s; cache = record { values = vs; marks = ms }; input = input; output = output }) (runCache small s (record { values = vs; marks = ms }) flags guest vcpu input output effect exit)
+        → _≡_ {A = RunOutcome} (record { answer = r; store = s; cache = record { values = vs; marks = ms }; input = input; output = output }) (runCache small s (record { values = vs; marks = ms }) flags guest vcpu input output effect exit)
     unfolding cachedGood
     run-refused r f h i =
         ap (λ (x : Answer). record { answer = x; store = s; cache = c; input = input; output = output }) i ∙ sym (run-as ∙ all-refused refusedRun goneOn tests f (same-tests ∙ h))
@@ -165,8 +165,8 @@ module _ (s vs ms input output effect : List ℕ) (flags guest vcpu exit : ℕ) 
     laid-fits = omega (arith, room, within)
 
     -- the same tests of the run itself, which needs nothing
-    spots : Passed (spotTests small s flags guest vcpu 0 (length laid) (length output))
-    spots =
+    earlier : Passed (runTargetTests small s flags guest vcpu 0 (length laid) (length output))
+    earlier =
         let p = passed in
         let z : (ltb (length laid) (inputSize s base) || ltb (inputSize s base) 0) ≡ false
         = ap₂ (λ (x y : Bool). x || y) (ap (λ (n : ℕ). ltb n (inputSize s base)) (length-put input 0 (message (pending c))) ∙ lents .0) (le-ltb (inputSize s base) 0 (omega arith)) in
@@ -187,13 +187,13 @@ module _ (s vs ms input output effect : List ℕ) (flags guest vcpu exit : ℕ) 
         ≡ ran (baseOf small s false guest vcpu) s (inputOf s (baseOf small s false guest vcpu) (put input 0 (message (pending (record { values = vs; marks = ms }))))) output effect exit
     unfolding runVcpu decide
     run-accepted =
-        begin-admitted (refuse s output) (ran base s (inputOf s base laid) output effect exit) (spotTests small s flags guest vcpu 0 (length laid) (length output)) (contentTests small s (inputOf s base laid) effect exit)
-        (passed-judged (spotTests small s flags guest vcpu 0 (length laid) (length output)) spots)
+        begin-admitted (refuse s output) (ran base s (inputOf s base laid) output effect exit) (runTargetTests small s flags guest vcpu 0 (length laid) (length output)) (contentTests small s (inputOf s base laid) effect exit)
+        (passed-judged (runTargetTests small s flags guest vcpu 0 (length laid) (length output)) earlier)
         ∙ ap (λ (w : Walked). cond (isStopped w) (refuse s output (faultOf w)) (firstOf (refuse s output) (exitTests small s effect exit) (ran base s (inputOf s base laid) output effect exit))) walked
         ∙ all-admitted (refuse s output) (ran base s (inputOf s base laid) output effect exit) (exitTests small s effect exit) (passed-judged (exitTests small s effect exit) ends)
 
-    spot : Spotted small s base (inputSize s base) (length laid) (length output)
-    spot = spotted small sound-small s flags guest vcpu 0 (length laid) (length output) spots
+    found : RunFound small s base (inputSize s base) (length laid) (length output)
+    found = run-found small sound-small s flags guest vcpu 0 (length laid) (length output) earlier
 
     -- by what the call of `run_vcpu` left
     module _ (x u v : List ℕ) (r : Answer) (lx : x ≡ put input 0 (message (pending (record { values = vs; marks = ms }))))
@@ -212,7 +212,7 @@ module _ (s vs ms input output effect : List ℕ) (flags guest vcpu exit : ℕ) 
           length-applied base effect (applied base b (countOf b) s) (countOf effect) ∙ length-applied base b s (countOf b)
 
       slot-room : base + 1820 ≤ length (ranStore base (inputOf s base laid) effect s)
-      slot-room = omega (arith, ran-long, spot .room, spot .long)
+      slot-room = omega (arith, ran-long, found .room, found .long)
 
       pub out-ready : AllReady 0 v 1820
       unfolding outputOf
@@ -220,17 +220,17 @@ module _ (s vs ms input output effect : List ℕ) (flags guest vcpu exit : ℕ) 
           let w = ranStore base (inputOf s base laid) effect s in
           valued-ready base w slot-room (returned exit) (returned-named exit) (omega (arith, returned-few exit)) v
           (subst (λ (y : List ℕ). Begins y (message (valued base w (returned exit)))) (sym out-is)
-          (begins-put output (outputOf base w exit) (omega (arith, length-output base w exit slot-room, output-short exit, spot .out))))
+          (begins-put output (outputOf base w exit) (omega (arith, length-output base w exit slot-room, output-short exit, found .out))))
 
       pub run-left : (us ns : List ℕ) → _≡_ {A = Cache} (record { values = us; marks = ns }) (refreshed (record { values = vs; marks = ms }) v)
-          → _≡_ {A = Ran} (record { answer = r; store = u; cache = record { values = us; marks = ns }; input = x; output = v }) (runCache small s (record { values = vs; marks = ms }) flags guest vcpu input output effect exit)
+          → _≡_ {A = RunOutcome} (record { answer = r; store = u; cache = record { values = us; marks = ns }; input = x; output = v }) (runCache small s (record { values = vs; marks = ms }) flags guest vcpu input output effect exit)
       unfolding ranWith
       run-left us ns e =
           ap₂ (λ (k : Cache) (y : List ℕ). record { answer = r; store = u; cache = k; input = y; output = v }) e lx
           ∙ ap (λ (y : Outcome). ranWith c laid y) was ∙ sym (run-as ∙ all-admitted refusedRun goneOn tests judged)
 
 pub run-malformed : (s vs ms input output effect : List ℕ) (flags guest vcpu exit : ℕ) (t : Bool) → t ≡ goodCache (record { values = vs; marks = ms }) → not t ≡ true → (r : Answer) → r ≡ refusal CacheBad
-    → _≡_ {A = Ran} (record { answer = r; store = s; cache = record { values = vs; marks = ms }; input = input; output = output }) (runCache small s (record { values = vs; marks = ms }) flags guest vcpu input output effect exit)
+    → _≡_ {A = RunOutcome} (record { answer = r; store = s; cache = record { values = vs; marks = ms }; input = input; output = output }) (runCache small s (record { values = vs; marks = ms }) flags guest vcpu input output effect exit)
 unfolding runCache
 run-malformed s vs ms input output effect flags guest vcpu exit t g h r i =
     let m : goodCache (record { values = vs; marks = ms }) ≡ false = sym g ∙ not-true t h in

@@ -31,7 +31,7 @@ use Rattle.admission.specs.declared.Admission.the-variants.{Admitted, Refused}
 use Rattle.admission.specs.Refusals.{success, refusal, judgement, Passed}
 use Rattle.admission.proofs.Judging.{judged-passed, all-refused, all-admitted}
 use Rattle.l1.specs.Marks.{Cache, withMark, allowed, isInput, isReadable, isSpecial, goodCache}
-use Rattle.l1.specs.Cache.{first, Wrote, change, writeCache, keep}
+use Rattle.l1.specs.Cache.{placeZero, WriteOutcome, change, writeCache, keep}
 use Rattle.l1.specs.Private.{elementTests, elementGood}
 use Rattle.l1.proofs.Marking.{values-long, marks-long}
 
@@ -100,7 +100,7 @@ module _ (vs ms : List ℕ) (good : Bool) (id : ℕ) (v : List ℕ) (c : Bool) (
   cache = record { values = vs; marks = ms }
 
   judgedBy : Bool → Bool → Bool → Bool → Admission
-  judgedBy x a g b = cond (not x) (Refused CacheBad) (cond a (Refused Length) (cond (not g) (Refused (Element Id first)) (cond (not b) (Refused (Element Size first)) Admitted)))
+  judgedBy x a g b = cond (not x) (Refused CacheBad) (cond a (Refused Length) (cond (not g) (Refused (Element Id placeZero)) (cond (not b) (Refused (Element Size placeZero)) Admitted)))
 
   judged-as : (x a g b : Bool) → c ≡ x → ltb 65528 (length v) ≡ a → good ≡ g → eqb (length v) (elementOf id .size) ≡ b → judgedBy x a g b ≡ elementGood (record { values = vs; marks = ms }) good id v
   unfolding judgedBy elementGood
@@ -116,7 +116,7 @@ module _ (vs ms : List ℕ) (good : Bool) (id : ℕ) (v : List ℕ) (c : Bool) (
     element-long h = judged-as true true good (eqb (length v) (elementOf id .size)) (not-false c n) (lt-ltb _ _ h) refl refl
 
     module _ (h : length v ≤ 65528) where
-      pub element-id : not good ≡ true → Refused (Element Id first) ≡ elementGood (record { values = vs; marks = ms }) good id v
+      pub element-id : not good ≡ true → Refused (Element Id placeZero) ≡ elementGood (record { values = vs; marks = ms }) good id v
       unfolding judgedBy
       element-id g = judged-as true false false (eqb (length v) (elementOf id .size)) (not-false c n) (le-ltb _ _ h) (not-true good g) refl
 
@@ -124,7 +124,7 @@ module _ (vs ms : List ℕ) (good : Bool) (id : ℕ) (v : List ℕ) (c : Bool) (
         same-size : x .size ≡ elementOf id .size
         same-size = ap (λ (y : Thing). y .size) e
 
-        pub element-size : (length v ≡ x .size → ⊥) → Refused (Element Size first) ≡ elementGood (record { values = vs; marks = ms }) good id v
+        pub element-size : (length v ≡ x .size → ⊥) → Refused (Element Size placeZero) ≡ elementGood (record { values = vs; marks = ms }) good id v
         unfolding judgedBy
         element-size k = judged-as true false true false (not-false c n) (le-ltb _ _ h) (not-false good g) (ne-eqb _ _ (λ q. k (q ∙ sym same-size)))
 
@@ -179,22 +179,22 @@ module _ (vs ms : List ℕ) (id : ℕ) (v : List ℕ) (good : Bool) (g : good �
   abbrev before : Cache
   before = record { values = vs; marks = ms }
 
-  abbrev wrote : Wrote
+  abbrev wrote : WriteOutcome
   wrote = record { answer = success 0; cache = change before id v }
 
-  abbrev refused : Fault → Wrote
+  abbrev refused : Fault → WriteOutcome
   refused f = record { answer = refusal f; cache = before }
 
   judged : judgement (elementTests before (isInput id) id v) ≡ a
   unfolding elementGood
   judged = sym (q ∙ ap (λ (t : Bool). judgement (elementTests before t id v)) g)
 
-  pub write-bad : (f : Fault) → a ≡ Refused f → r ≡ refusal f → _≡_ {A = Wrote} (record { answer = r; cache = record { values = vs; marks = ms } }) (writeCache (record { values = vs; marks = ms }) id v)
+  pub write-bad : (f : Fault) → a ≡ Refused f → r ≡ refusal f → _≡_ {A = WriteOutcome} (record { answer = r; cache = record { values = vs; marks = ms } }) (writeCache (record { values = vs; marks = ms }) id v)
   unfolding writeCache
   write-bad f h i = ap (λ (y : Answer). record { answer = y; cache = before }) i ∙ sym (all-refused refused wrote (elementTests before (isInput id) id v) f (judged ∙ h))
 
   pub write-done : (us ns : List ℕ) → a ≡ Admitted → _≡_ {A = Cache} (record { values = us; marks = ns }) (change (record { values = vs; marks = ms }) id v) → r ≡ success 0
-      → _≡_ {A = Wrote} (record { answer = r; cache = record { values = us; marks = ns } }) (writeCache (record { values = vs; marks = ms }) id v)
+      → _≡_ {A = WriteOutcome} (record { answer = r; cache = record { values = us; marks = ns } }) (writeCache (record { values = vs; marks = ms }) id v)
   unfolding writeCache
   write-done us ns h k i =
       ap₂ (λ (y : Answer) (d : Cache). record { answer = y; cache = d }) i k ∙ sym (all-admitted refused wrote (elementTests before (isInput id) id v) (judged ∙ h))

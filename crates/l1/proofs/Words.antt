@@ -17,7 +17,7 @@ use borrow.Author.Tests.{eq-eqb}
 use Rattle.store.specs.Search.{first, tally}
 use Rattle.store.proofs.Search.{first-bounds, found-first, tally-ext}
 use Rattle.l1.specs.Marks.{isMarked}
-use Rattle.l1.specs.MarksPrivate.{isChanged}
+use Rattle.l1.specs.Private.{isChanged}
 
 -- digit j of a word of 64, from the most significant
 abbrev digit : ℕ → ℕ → ℕ

@@ -25,21 +25,21 @@ use Rattle.run.specs.Run.{cachedTests, runVcpu}
 use Rattle.l1.specs.Marks.{Cache, withMark, valid, changed, isInput, isReadable, goodCache}
 
 -- ---- "Write: 15; 5 for a value over 65,528 bytes; 6 ..; 7. It stores the value, valid and changed." "Place is 0."
-abbrev pub first : Place
-first = record { index = 0; offset = 0 }
+abbrev pub placeZero : Place
+placeZero = record { index = 0; offset = 0 }
 
 -- 5, then 6 unless the ID is good for the operation, then 7
 abbrev pub valueTests : Bool → ℕ → List ℕ → List (Bool × Fault)
-valueTests good id v = (ltb 65528 (length v), Length) ∷ (not good, Element Id first) ∷ (not (eqb (length v) (elementOf id .size)), Element Size first) ∷ []
+valueTests good id v = (ltb 65528 (length v), Length) ∷ (not good, Element Id placeZero) ∷ (not (eqb (length v) (elementOf id .size)), Element Size placeZero) ∷ []
 
-pub record Wrote : Type 0 where
+pub record WriteOutcome : Type 0 where
   pub answer : Answer
   pub cache : Cache
 
 unfoldable pub change : Cache → ℕ → List ℕ → Cache
 change c id v = record { values = put (c .values) (elementOf id .position) v; marks = withMark (withMark (c .marks) (numberOf id)) (192 + numberOf id) }
 
-unfoldable pub writeCache : Cache → ℕ → List ℕ → Wrote
+unfoldable pub writeCache : Cache → ℕ → List ℕ → WriteOutcome
 writeCache c id v =
     firstOf (λ f. record { answer = refusal f; cache = c })
     ((not (goodCache c), CacheBad) ∷ valueTests (isInput id) id v)
@@ -47,7 +47,7 @@ writeCache c id v =
 
 -- ---- "Read into a lent value buffer: 15, 5, 6 .., 7; then a valid element comes from the cache, else from get state with that answer,
 -- and after 0 is stored as valid."
-pub record Got : Type 0 where
+pub record ReadOutcome : Type 0 where
   pub answer : Answer
   pub cache : Cache
   pub value : List ℕ
@@ -62,10 +62,10 @@ one id v = message ((id, v) ∷ [])
 abbrev pub valueIn : List ℕ → ℕ → List ℕ
 valueIn b size = bytesAt b 8 size
 
-unfoldable pub fetched : Cache → ℕ → ℕ → Outcome → Got
+unfoldable pub fetched : Cache → ℕ → ℕ → Outcome → ReadOutcome
 fetched c id size o = record { answer = o .answer; cache = cond (accepted (told CacheRead (o .answer .fault) (o .answer .value))) (keep c id (valueIn (o .buffer) size)) c; value = valueIn (o .buffer) size }
 
-unfoldable pub readCache : Layout → List ℕ → ℕ → ℕ → Cache → ℕ → List ℕ → Got
+unfoldable pub readCache : Layout → List ℕ → ℕ → ℕ → Cache → ℕ → List ℕ → ReadOutcome
 readCache l s guest vcpu c id v =
     firstOf (λ f. record { answer = refusal f; cache = c; value = v })
     ((not (goodCache c), CacheBad) ∷ valueTests (isReadable id) id v)
@@ -75,7 +75,7 @@ readCache l s guest vcpu c id v =
 
 -- ---- "Run: 15, then a run's order; 12 with R4 0 also if the changed elements need more than the registered input. It writes a count
 -- and them, in order of ID, to the input's first bytes, the rest untouched."
-pub record Ran : Type 0 where
+pub record RunOutcome : Type 0 where
   pub answer : Answer
   pub store : List ℕ
   pub cache : Cache
@@ -98,11 +98,11 @@ marked m b (suc n) = withMark (marked m b n) (numberOf (idAt b (offsetAt b n)))
 unfoldable pub refreshed : Cache → List ℕ → Cache
 refreshed c b = record { values = applied 0 b (countOf b) (c .values); marks = marked (zeros 6) b (countOf b) }
 
-unfoldable pub ranWith : Cache → List ℕ → Outcome → Ran
+unfoldable pub ranWith : Cache → List ℕ → Outcome → RunOutcome
 ranWith c input o = record { answer = o .answer; store = o .store; cache = refreshed c (o .buffer); input = input; output = o .buffer }
 
 -- everything is judged first; the changed elements are permitted in an input, so that a run refuses none of them
-unfoldable pub runCache : Layout → List ℕ → Cache → ℕ → ℕ → ℕ → List ℕ → List ℕ → List ℕ → ℕ → Ran
+unfoldable pub runCache : Layout → List ℕ → Cache → ℕ → ℕ → ℕ → List ℕ → List ℕ → List ℕ → ℕ → RunOutcome
 runCache l s c flags guest vcpu input output effect exit =
     firstOf (λ f. record { answer = refusal f; store = s; cache = c; input = input; output = output })
     ((not (goodCache c), CacheBad) ∷ cachedTests l s flags guest vcpu (length (message (pending c))) (length input) (length output) effect exit)

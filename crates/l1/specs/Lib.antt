@@ -1,4 +1,3 @@
 pub mod Cache
 pub mod Private
 pub mod Marks
-pub mod MarksPrivate

@@ -21,7 +21,7 @@ ghost use Rattle.store.specs.Layout.{small};
 ghost use Rattle.exits.specs.Exits.{elementOf};
 ghost use Rattle.state.specs.State.{gotElement};
 ghost use Rattle.l1.specs.Marks.{isReadable};
-ghost use Rattle.l1.specs.Cache.{Got, fetched, readCache};
+ghost use Rattle.l1.specs.Cache.{ReadOutcome, fetched, readCache};
 ghost use Rattle.l1.specs.Private.{readValue};
 
 fn is_accepted(call: Call, answer: Answer) -> bool
@@ -41,7 +41,7 @@ fn fetch(
     value: &mut [u8],
 ) -> Answer
     requires { ⌜ (isReadable id ≡ true) × (length (now values) ≡ 1820) × (length (now marks) ≡ 6) × (length (now value) ≡ elementOf id .size) ⌝ }
-    ensures { λ r. ⌜ _≡_ {A = Got} (record { answer = r; cache = record { values = now (values .exit); marks = now (marks .exit) }; value = now (value .exit) }) (fetched (record { values = now (values .entry); marks = now (marks .entry) }) id (length (now (value .entry))) (gotElement (now (store .entry)) guest vcpu id (now (value .entry)))) ⌝ }
+    ensures { λ r. ⌜ _≡_ {A = ReadOutcome} (record { answer = r; cache = record { values = now (values .exit); marks = now (marks .exit) }; value = now (value .exit) }) (fetched (record { values = now (values .entry); marks = now (marks .entry) }) id (length (now (value .entry))) (gotElement (now (store .entry)) guest vcpu id (now (value .entry)))) ⌝ }
 {
     let answer = get_element(store, guest, vcpu, id, value);
     if !is_accepted(Call::CacheRead, answer) {
@@ -62,7 +62,7 @@ fn read_value(
     value: &mut [u8],
 ) -> Answer
     requires { ⌜ (isReadable id ≡ true) × (length (now values) ≡ 1820) × (length (now marks) ≡ 6) × (length (now value) ≡ elementOf id .size) ⌝ }
-    ensures { λ r. ⌜ _≡_ {A = Got} (record { answer = r; cache = record { values = now (values .exit); marks = now (marks .exit) }; value = now (value .exit) }) (readValue (now (store .entry)) guest vcpu (record { values = now (values .entry); marks = now (marks .entry) }) id (now (value .entry))) ⌝ }
+    ensures { λ r. ⌜ _≡_ {A = ReadOutcome} (record { answer = r; cache = record { values = now (values .exit); marks = now (marks .exit) }; value = now (value .exit) }) (readValue (now (store .entry)) guest vcpu (record { values = now (values .entry); marks = now (marks .entry) }) id (now (value .entry))) ⌝ }
 {
     if !is_marked(marks, number_of(id)) {
         return fetch(store, guest, vcpu, values, marks, id, value);
@@ -81,7 +81,7 @@ pub fn read(
     id: u16,
     value: &mut [u8],
 ) -> Answer
-    ensures { λ r. ⌜ _≡_ {A = Got} (record { answer = r; cache = record { values = now (values .exit); marks = now (marks .exit) }; value = now (value .exit) }) (readCache small (now (store .entry)) guest vcpu (record { values = now (values .entry); marks = now (marks .entry) }) id (now (value .entry))) ⌝ }
+    ensures { λ r. ⌜ _≡_ {A = ReadOutcome} (record { answer = r; cache = record { values = now (values .exit); marks = now (marks .exit) }; value = now (value .exit) }) (readCache small (now (store .entry)) guest vcpu (record { values = now (values .entry); marks = now (marks .entry) }) id (now (value .entry))) ⌝ }
 {
     match judge_element(values, marks, is_readable(id), id, value) {
         Admission::Refused(fault) => return refusal(fault),

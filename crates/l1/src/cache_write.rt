@@ -7,10 +7,10 @@ use answer::Answer;
 use answer::refusal;
 use answer::success;
 ghost use mathlib.Core.Path.{_≡_};
-ghost use Rattle.l1.specs.Cache.{Wrote, writeCache};
+ghost use Rattle.l1.specs.Cache.{WriteOutcome, writeCache};
 
 pub fn write(values: &mut [u8], marks: &mut [u64], id: u16, value: &[u8]) -> Answer
-    ensures { λ r. ⌜ _≡_ {A = Wrote} (record { answer = r; cache = record { values = now (values .exit); marks = now (marks .exit) } }) (writeCache (record { values = now (values .entry); marks = now (marks .entry) }) id (now (value .entry))) ⌝ }
+    ensures { λ r. ⌜ _≡_ {A = WriteOutcome} (record { answer = r; cache = record { values = now (values .exit); marks = now (marks .exit) } }) (writeCache (record { values = now (values .entry); marks = now (marks .entry) }) id (now (value .entry))) ⌝ }
 {
     match judge_element(values, marks, is_input(id), id, value) {
         Admission::Refused(fault) => return refusal(fault),

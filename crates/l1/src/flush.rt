@@ -1,5 +1,4 @@
-// The L1 cache's run: what changed since the last one is sent in the input, and what the output holds is kept. Apart from `l1`,
-// the cache's write and read, with which it shares no code; the three operations are defined there together.
+// The L1 cache's run: what changed since the last one is sent in the input, and what the output holds is kept.
 mod cache_run;
 mod input;
 mod output;

@@ -1,5 +1,5 @@
 // The L1 cache: a vCPU's values kept by the L1, with marks of which are valid and which changed since the last run.
-// `value` holds what a write and a read share. The cache's run is the crate `flush`.
+// `value` holds what a write and a read share, `caches` when a cache is well formed, `flush` the cache's run.
 mod cache_read;
 mod cache_write;
 mod caches;

@@ -5,7 +5,7 @@ ghost use Prim.Native.Nat.{_-_, _≤_, _<_};
 ghost use lib.ListN.{length};
 ghost use Rattle.octets.specs.Bytes.{zeros};
 ghost use Rattle.store.specs.Search.{first, tally};
-ghost use Rattle.l1.specs.MarksPrivate.{isChanged};
+ghost use Rattle.l1.specs.Private.{isChanged};
 ghost use Rattle.l1.specs.Marks.{isMarked, withMark};
 
 pub fn is_marked(m: &[u64], i: usize) -> bool

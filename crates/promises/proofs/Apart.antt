@@ -43,7 +43,7 @@ use Rattle.store.specs.Store.{wellFormed, fresh, putLive, putWord, withGuest, w
 use Rattle.store.proofs.Search.{no-bool, both, first-bounds, first-found, found-first}
 use Rattle.store.proofs.Readings.{step}
 use Rattle.store.proofs.Tests.{live-parts}
-use Rattle.store.proofs.FieldsLaws.{word-other, live-same, word-live, live-else}
+use Rattle.store.proofs.WordFields.{word-other, live-same, word-live, live-else}
 use Rattle.store.proofs.Frame.{header-full, header-values, header-word, header-live, formed, formed-values}
 use Rattle.store.proofs.Kept.{words-are, drop-less, deleted-else, deleted-other}
 use Rattle.transfer.specs.Transfer.{valueAt, putFrom, putAs, applied, readFrom, fillAs, filled}

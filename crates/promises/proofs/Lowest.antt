@@ -21,7 +21,7 @@ use Rattle.store.specs.Header.{header, live, word, wordOf, holds, slotHolding, 
 use Rattle.store.specs.Store.{wellFormed, putLive, putWord, withGuest, withVcpu, withoutGuest, noWords, noGuests, withoutGuests}
 use Rattle.store.proofs.Search.{no-bool, first-found, found-first, first-bounds, first-none, first-le}
 use Rattle.store.proofs.Tests.{of-found, live-parts}
-use Rattle.store.proofs.FieldsLaws.{word-same, word-other, live-same, live-here, live-else}
+use Rattle.store.proofs.WordFields.{word-same, word-other, live-same, live-here, live-else}
 use Rattle.store.proofs.Frame.{header-full, header-values, header-word, header-live, formed}
 use Rattle.store.proofs.Kept.{guests-gone, deleted-live, deleted-slot, deleted-other}
 use Rattle.admission.specs.Refusals.{Outcome, accept, refuse, decide, hasBit0, Passed}

@@ -34,8 +34,8 @@ use Rattle.exits.proofs.Rows.{length-output}
 use Rattle.admission.specs.Refusals.{Outcome, refuse, decide, Passed}
 use Rattle.admission.specs.Target.{baseOf}
 use Rattle.state.specs.State.{contextOf, isStopped, faultOf}
-use Rattle.run.specs.Run.{effectFault, spotTests, inputOf, contentTests, runTests, ranStore, ran, runVcpu}
-use Rattle.run.proofs.Runs.{stopped-not, spotted}
+use Rattle.run.specs.Run.{effectFault, runTargetTests, inputOf, contentTests, runTests, ranStore, ran, runVcpu}
+use Rattle.run.proofs.Runs.{stopped-not, run-found}
 use Rattle.l0.specs.Calls.{Call, RunVcpu, outcome}
 use Rattle.promises.specs.History.{registers}
 use Rattle.promises.proofs.Kept.{decided}
@@ -62,8 +62,8 @@ module _ (l : Layout) (s : List ℕ) (flags guest vcpu : ℕ) (input output effe
   abbrev done : Outcome
   done = ran base s given output effect exit
 
-  abbrev spots : List (Bool × Fault)
-  spots = spotTests l s flags guest vcpu 0 (length input) (length output)
+  abbrev earlier : List (Bool × Fault)
+  earlier = runTargetTests l s flags guest vcpu 0 (length input) (length output)
 
   abbrev call : Call
   call = RunVcpu flags guest vcpu input output effect exit
@@ -94,10 +94,10 @@ module _ (l : Layout) (s : List ℕ) (flags guest vcpu : ℕ) (input output effe
   laterTold = later (known exit) (badLength effect) found
 
   -- past 1 to 12
-  module _ (p : Passed spots) where
+  module _ (p : Passed earlier) where
     past : after ≡ firstOf (refuse s output) (contentTests l s given effect exit) done
     unfolding runVcpu decide
-    past = skip (refuse s output) spots (contentTests l s given effect exit) done p
+    past = skip (refuse s output) earlier (contentTests l s given effect exit) done p
 
     -- what is told is what the walk of the input finds, then 13, then what the walk of the effect finds
     run-told : registers l s call ≡ toldBy (elementTold Name.RunVcpu) laterTold (firstBad (contextOf l s RunInput) given)
@@ -231,5 +231,5 @@ module _ (l : Layout) (s : List ℕ) (flags guest vcpu : ℕ) (input output effe
     where
       room : Passed tests → base + 1820 ≤ length (ranStore base given effect s)
       room p =
-          let y = spotted l so s flags guest vcpu 0 (length input) (length output) (p .0, (p .1 .0, (p .1 .1 .0, (p .1 .1 .1 .0, (p .1 .1 .1 .1 .0, (p .1 .1 .1 .1 .1 .0, (p .1 .1 .1 .1 .1 .1 .0, (p .1 .1 .1 .1 .1 .1 .1 .0, tt)))))))) in
+          let y = run-found l so s flags guest vcpu 0 (length input) (length output) (p .0, (p .1 .0, (p .1 .1 .0, (p .1 .1 .1 .0, (p .1 .1 .1 .1 .0, (p .1 .1 .1 .1 .1 .0, (p .1 .1 .1 .1 .1 .1 .0, (p .1 .1 .1 .1 .1 .1 .1 .0, tt)))))))) in
           omega (arith, y .room, y .long, length-ran)

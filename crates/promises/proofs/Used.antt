@@ -21,7 +21,7 @@ use Rattle.store.specs.Search.{tally}
 use Rattle.store.specs.Header.{header, word, wordOf, isUsed, guestOf, holds, lacks, freeSlot, isDead, freeGuest, usedSlots}
 use Rattle.store.specs.Store.{wellFormed, fresh, putLive, withGuest, withVcpu}
 use Rattle.store.proofs.Search.{first-bounds, tally-ext, tally-more, tally-sum, tally-all}
-use Rattle.store.proofs.FieldsLaws.{word-same, word-other, word-live}
+use Rattle.store.proofs.WordFields.{word-same, word-other, word-live}
 use Rattle.store.proofs.Frame.{header-full, header-values, header-caps, header-live, formed}
 use Rattle.store.proofs.Kept.{words-are, caps-word}
 use Rattle.store.proofs.Small.{sound-small, fresh-good}
@@ -31,7 +31,7 @@ use Rattle.state.specs.State.{getState, setState}
 use Rattle.run.specs.Run.{inputOf, ranStore, ran, runVcpu}
 use Rattle.guests.specs.Guests.{createGuest}
 use Rattle.l0.specs.Calls.{getCapabilities, setCapabilities, guestClock, Call, GetCapabilities, SetCapabilities, CreateGuest, CreateVcpu, GetState, SetState, RunVcpu, DeleteGuest, GuestClock, outcome, after}
-use Rattle.promises.specs.History.{registers, isAccepted, Count, nothing, deletes, isDropped, howMany, without, counting, counted, history, freeSlots}
+use Rattle.promises.specs.History.{registers, isAccepted, Count, nothing, deletes, isDropped, howMany, without, counting, countedOver, history, freeSlots}
 use Rattle.promises.proofs.Kept.{decided, refused-unchanged, applied-header, base-values, well-formed-kept, fresh-history}
 use Rattle.promises.proofs.Told.{zero-none, none-accepted}
 use Rattle.promises.proofs.Lowest.{VcpuMade, vcpu-made, new-word, made-header, free-slot, freed-slot, kept-slot}
@@ -238,8 +238,8 @@ module _ (l : Layout) (so : Sound l) (s : List ℕ) (good : wellFormed l s ≡ t
       at a k (no n) = ap not (ne-eqb _ _ n) ∙ sym (ap (λ (t : Bool). t && true) (used (word l (header l s) a) (words-are l (header l s) (formed l s good .words) .good a k n .0)))
 
 -- ---- every history
-history-matches : (l : Layout) → Sound l → (s : List ℕ) → wellFormed l s ≡ true → (n : Count) (cs : List Call) → Matches l s (n .vcpus) → Matches l (after l s cs) (counted l s n cs .vcpus)
-unfolding after counted
+history-matches : (l : Layout) → Sound l → (s : List ℕ) → wellFormed l s ≡ true → (n : Count) (cs : List Call) → Matches l s (n .vcpus) → Matches l (after l s cs) (countedOver l s n cs .vcpus)
+unfolding after countedOver
 history-matches l so s good n [] m = m
 history-matches l so s good n (c ∷ cs) m =
     history-matches l so (outcome l s c .store) (well-formed-kept l so s good c) (cond (isAccepted l s c) (counting n c) n) cs (turn-matches l so s good n c m)
@@ -260,8 +260,8 @@ call-even n (RunVcpu flags guest vcpu input output effect exit) e = e
 call-even n (DeleteGuest flags guest) e = record { sum = omega (arith, e .sum, left-and-dropped (isDropped flags guest) (n .vcpus)) }
 call-even n (GuestClock guest timebase) e = e
 
-history-even : (l : Layout) (s : List ℕ) (n : Count) (cs : List Call) → Even n → Even (counted l s n cs)
-unfolding counted
+history-even : (l : Layout) (s : List ℕ) (n : Count) (cs : List Call) → Even n → Even (countedOver l s n cs)
+unfolding countedOver
 history-even l s n [] e = e
 history-even l s n (c ∷ cs) e = history-even l (outcome l s c .store) (cond (isAccepted l s c) (counting n c) n) cs (go (isAccepted l s c))
   where

@@ -23,11 +23,11 @@ agrees (x ∷ xs) = eqb (x .0) (x .1) && agrees xs
 unfoldable pub element : ℕ → ℕ → ℕ → List ℕ
 element id size v = digits 2 id ++ digits 2 size ++ digits size v
 
-unfoldable pub counted : ℕ → List ℕ → List ℕ
-counted n elements = digits 4 n ++ elements
+unfoldable pub bufferOf : ℕ → List ℕ → List ℕ
+bufferOf n elements = digits 4 n ++ elements
 
 unfoldable pub one : ℕ → ℕ → ℕ → List ℕ
-one id size v = counted 1 (element id size v)
+one id size v = bufferOf 1 (element id size v)
 
 -- ---- stores
 abbrev pub newGuest : Call
@@ -42,22 +42,22 @@ unfoldable pub twoSlots : List ℕ
 twoSlots = after small (fresh small) (newGuest ∷ newGuest ∷ newGuest ∷ CreateVcpu 0 3 2047 ∷ CreateVcpu 0 1 0 ∷ [])
 
 -- ---- calls on guest 1's vCPU 0
-abbrev pub set : List ℕ → Call
-set b = SetState 0 1 0 b
+abbrev pub setThread : List ℕ → Call
+setThread b = SetState 0 1 0 b
 
-abbrev pub get : List ℕ → Call
-get b = GetState 0 1 0 b
+abbrev pub getThread : List ℕ → Call
+getThread b = GetState 0 1 0 b
 
 -- with an output of 124 bytes, an empty effect and the exit 0x000, after an input of 28 bytes and that output were registered
-abbrev pub run : ℕ → List ℕ → Call
-run flags input = RunVcpu flags 1 0 input (digits 124 0) (digits 4 0) 0x000
+abbrev pub runThread : ℕ → List ℕ → Call
+runThread flags input = RunVcpu flags 1 0 input (digits 124 0) (digits 4 0) 0x000
 
 unfoldable pub registered : List ℕ → List ℕ
-registered s = outcome small s (set (counted 2 (element 0x0C00 16 28 ++ element 0x0C01 16 124))) .store
+registered s = outcome small s (setThread (bufferOf 2 (element 0x0C00 16 28 ++ element 0x0C01 16 124))) .store
 
 -- 0x1003, then 0x1054, which is unlisted
 unfoldable pub goodThenBad : List ℕ
-goodThenBad = counted 2 (element 0x1003 8 0 ++ element 0x1054 8 0)
+goodThenBad = bufferOf 2 (element 0x1003 8 0 ++ element 0x1054 8 0)
 
 unfoldable pub r3 : List ℕ → Call → ℕ
 r3 s c = registers small s c .r3
@@ -72,35 +72,35 @@ zerosBefore (x ∷ xs) = cond (eqb x 0) (suc (zerosBefore xs)) 0
 
 -- the first byte of slot 0, whose values were zero, that a set of the element to all ones wrote
 unfoldable pub placed : List ℕ → ℕ → ℕ → ℕ
-placed s id size = zerosBefore (bytesAt (outcome small s (set (one id size (2 ^ (8 * size) - 1))) .store) (slotAt small 0) slotBytes)
+placed s id size = zerosBefore (bytesAt (outcome small s (setThread (one id size (2 ^ (8 * size) - 1))) .store) (slotAt small 0) slotBytes)
 
 -- what a get of 0x1003 reads after a set of the buffer
 unfoldable pub readAfter : List ℕ → List ℕ → ℕ
-readAfter s b = be (outcome small (outcome small s (set b) .store) (get (one 0x1003 8 0)) .buffer) 8 8
+readAfter s b = be (outcome small (outcome small s (setThread b) .store) (getThread (one 0x1003 8 0)) .buffer) 8 8
 
 -- ---- the table, where s is `ready` and t is `twoSlots`
 unfoldable pub edgesOf : List ℕ → List ℕ → List (ℕ × ℕ)
 edgesOf s t =
     -- "0x101F is at byte 288 of a slot, 0x1020 at 296; 0x1054 is 6."
-    (position Thread 0x101F, 288) ∷ (placed s 0x101F 8, 288) ∷ (position Thread 0x1020, 296) ∷ (placed s 0x1020 8, 296) ∷ (r3 s (set (one 0x1054 8 0)), 6)
+    (position Thread 0x101F, 288) ∷ (placed s 0x101F 8, 288) ∷ (position Thread 0x1020, 296) ∷ (placed s 0x1020 8, 296) ∷ (r3 s (setThread (one 0x1054 8 0)), 6)
     -- "0x200E at 768, 0x303F at 1,780; 0x200F is 6."
-    ∷ (position Thread 0x200E, 768) ∷ (placed s 0x200E 4, 768) ∷ (position Thread 0x303F, 1780) ∷ (placed s 0x303F 16, 1780) ∷ (r3 s (set (one 0x200F 4 0)), 6)
+    ∷ (position Thread 0x200E, 768) ∷ (placed s 0x200E 4, 768) ∷ (position Thread 0x303F, 1780) ∷ (placed s 0x303F 16, 1780) ∷ (r3 s (setThread (one 0x200F 4 0)), 6)
     -- "Count 0 in 4 bytes succeeds; 3 bytes is 5."
-    ∷ (r3 s (set (digits 4 0)), 0) ∷ (r3 s (get (digits 4 0)), 0) ∷ (r3 s (set (digits 3 0)), 5) ∷ (r3 s (get (digits 3 0)), 5)
+    ∷ (r3 s (setThread (digits 4 0)), 0) ∷ (r3 s (getThread (digits 4 0)), 0) ∷ (r3 s (setThread (digits 3 0)), 5) ∷ (r3 s (getThread (digits 3 0)), 5)
     -- "A NOP of 0 and of 3 bytes: both good."
-    ∷ (r3 s (set (one 0x0000 0 0)), 0) ∷ (r3 s (get (one 0x0000 0 0)), 0) ∷ (r3 s (set (one 0x0000 3 0)), 0) ∷ (r3 s (get (one 0x0000 3 0)), 0)
+    ∷ (r3 s (setThread (one 0x0000 0 0)), 0) ∷ (r3 s (getThread (one 0x0000 0 0)), 0) ∷ (r3 s (setThread (one 0x0000 3 0)), 0) ∷ (r3 s (getThread (one 0x0000 3 0)), 0)
     -- "Get 0x103A is 6, set is good; set 0xF000 is 6, get is good."
-    ∷ (r3 s (get (one 0x103A 8 0)), 6) ∷ (r3 s (set (one 0x103A 8 0)), 0) ∷ (r3 s (set (one 0xF000 8 0)), 6) ∷ (r3 s (get (one 0xF000 8 0)), 0)
+    ∷ (r3 s (getThread (one 0x103A 8 0)), 6) ∷ (r3 s (setThread (one 0x103A 8 0)), 0) ∷ (r3 s (setThread (one 0xF000 8 0)), 6) ∷ (r3 s (getThread (one 0xF000 8 0)), 0)
     -- "Set 0x1003 with size 4 is 7; 0x1054 with size 4 is 6."
-    ∷ (r3 s (set (one 0x1003 4 0)), 7) ∷ (r3 s (set (one 0x1054 4 0)), 6)
+    ∷ (r3 s (setThread (one 0x1003 4 0)), 7) ∷ (r3 s (setThread (one 0x1054 4 0)), 6)
     -- "0x0C01's size 123 is 8, 124 good, 65,536 good, 65,537 is 8."
-    ∷ (r3 s (set (one 0x0C01 16 123)), 8) ∷ (r3 s (set (one 0x0C01 16 124)), 0) ∷ (r3 s (set (one 0x0C01 16 65536)), 0) ∷ (r3 s (set (one 0x0C01 16 65537)), 8)
+    ∷ (r3 s (setThread (one 0x0C01 16 123)), 8) ∷ (r3 s (setThread (one 0x0C01 16 124)), 0) ∷ (r3 s (setThread (one 0x0C01 16 65536)), 0) ∷ (r3 s (setThread (one 0x0C01 16 65537)), 8)
     -- "0x1003 set to 1, then 2, in one buffer: 2."
-    ∷ (readAfter s (counted 2 (element 0x1003 8 1 ++ element 0x1003 8 2)), 2)
+    ∷ (readAfter s (bufferOf 2 (element 0x1003 8 1 ++ element 0x1003 8 2)), 2)
     -- "Run flags 2^60: answer 2, R4 3."
-    ∷ (r3 (registered s) (run (2 ^ 60) (digits 28 0)), 2) ∷ (r4 (registered s) (run (2 ^ 60) (digits 28 0)), 3)
+    ∷ (r3 (registered s) (runThread (2 ^ 60) (digits 28 0)), 2) ∷ (r4 (registered s) (runThread (2 ^ 60) (digits 28 0)), 3)
     -- "0x1003 (8 bytes) then 0x1054: set state R4 1, run R4 16."
-    ∷ (r3 s (set goodThenBad), 6) ∷ (r4 s (set goodThenBad), 1) ∷ (r3 (registered s) (run 0 goodThenBad), 6) ∷ (r4 (registered s) (run 0 goodThenBad), 16)
+    ∷ (r3 s (setThread goodThenBad), 6) ∷ (r4 s (setThread goodThenBad), 1) ∷ (r3 (registered s) (runThread 0 goodThenBad), 6) ∷ (r4 (registered s) (runThread 0 goodThenBad), 16)
     -- "Slot word, guest 3, vCPU 2047: 0x9FFF; guest 1, vCPU 0: 0x8800."
     ∷ (wordOf small 3 2047, 0x9FFF) ∷ (word small (header small t) 0, 0x9FFF) ∷ (wordOf small 1 0, 0x8800) ∷ (word small (header small t) 1, 0x8800)
     -- "TB offset 2^64-1, timebase 5: clock 4."

@@ -74,13 +74,13 @@ counting n (DeleteGuest flags guest) =
 counting n (GuestClock guest timebase) = n
 
 -- "counted over the history": over the calls cs from the store s on, of which only the answers count
-unfoldable pub counted : Layout → List ℕ → Count → List Call → Count
-counted l s n [] = n
-counted l s n (c ∷ cs) = counted l (outcome l s c .store) (cond (isAccepted l s c) (counting n c) n) cs
+unfoldable pub countedOver : Layout → List ℕ → Count → List Call → Count
+countedOver l s n [] = n
+countedOver l s n (c ∷ cs) = countedOver l (outcome l s c .store) (cond (isAccepted l s c) (counting n c) n) cs
 
 -- "from a fresh store"
 abbrev pub history : Layout → List Call → Count
-history l cs = counted l (fresh l) nothing cs
+history l cs = countedOver l (fresh l) nothing cs
 
 -- how many slots are free: "unused words zero"
 unfoldable pub freeSlots : Layout → List ℕ → ℕ

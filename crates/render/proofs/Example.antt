@@ -6,7 +6,7 @@ use Prim.Native.Nat.{ℕ}
 use Rattle.octets.specs.Bytes.{be}
 use Rattle.elements.specs.Table.{table, find, kindOf}
 use Rattle.rules.specs.Rules.{allows, permits, sizeFits, ruleOf, goodValue}
-use Rattle.gsb.specs.Walk.{judged, after, walk, firstBad}
+use Rattle.gsb.specs.Walk.{judged, walkOn, walk, firstBad}
 use Rattle.render.specs.Text.{ascii, shown}
 use Rattle.render.specs.Listing.{firstLine, verdictText, line, onGood, lines, refusedLine, lastLine, listing}
 
@@ -21,7 +21,7 @@ example =
     ∷ []
 
 pub as-printed : listing example ≡ ascii "elements 2 bytes 24\n0 4 1003 8 ok\n1 16 0003 4 bad\nanswer 6 index 1\n"
-unfolding be table find kindOf allows permits sizeFits ruleOf goodValue judged after walk firstBad shown firstLine verdictText line onGood lines refusedLine lastLine listing
+unfolding be table find kindOf allows permits sizeFits ruleOf goodValue judged walkOn walk firstBad shown firstLine verdictText line onGood lines refusedLine lastLine listing
 as-printed = refl
 
 -- "A length of answer 5 prints only `answer 5`."
@@ -31,7 +31,7 @@ too-short = refl
 
 -- "A header that does not fit prints no such line."
 pub cut-header : listing (0 ∷ 0 ∷ 0 ∷ 1 ∷ 0x10 ∷ []) ≡ ascii "elements 1 bytes 5\nanswer 7 index 0\n"
-unfolding be judged after walk firstBad shown firstLine lines refusedLine lastLine listing
+unfolding be judged walkOn walk firstBad shown firstLine lines refusedLine lastLine listing
 cut-header = refl
 
 -- "or `answer 0` alone"

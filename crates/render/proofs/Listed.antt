@@ -25,37 +25,37 @@ use Rattle.gsb.specs.Walk.{countOf, idAt, sizeAt, badLength, judged, firstBad}
 use Rattle.gsb.proofs.Judged.{good-element}
 use Rattle.render.specs.declared.Rendered.{Rendered}
 use Rattle.render.specs.declared.Rendered.the-variants.{Text, Short}
-use Rattle.render.specs.Text.{Wrote, ascii, decimal, hex4}
-use Rattle.render.specs.Listing.{threadSet, firstLine, verdictText, line, onGood, lines, refusedLine, lastLine, listing, room, Outcome, rendered, Within}
+use Rattle.render.specs.Text.{Printed, ascii, decimal, hex4}
+use Rattle.render.specs.Listing.{threadSet, firstLine, verdictText, line, onGood, lines, refusedLine, lastLine, listing, room, RenderOutcome, rendered, Within}
 use Rattle.render.proofs.Writes.{wrote-then, wrote-same}
 
 -- ---- a line, by its parts
 module _ {s : List ℕ} {at : ℕ} {t₁ t₂ t₃ t₄ t₅ : List ℕ} {p₁ p₂ p₃ p₄ p₅ : ℕ} where
-  wrote-five : (a b c d e : List ℕ) → Wrote s at a t₁ p₁ → Wrote t₁ p₁ b t₂ p₂ → Wrote t₂ p₂ c t₃ p₃ → Wrote t₃ p₃ d t₄ p₄ → Wrote t₄ p₄ e t₅ p₅
-      → Wrote s at (a ++ (b ++ (c ++ (d ++ e)))) t₅ p₅
+  wrote-five : (a b c d e : List ℕ) → Printed s at a t₁ p₁ → Printed t₁ p₁ b t₂ p₂ → Printed t₂ p₂ c t₃ p₃ → Printed t₃ p₃ d t₄ p₄ → Printed t₄ p₄ e t₅ p₅
+      → Printed s at (a ++ (b ++ (c ++ (d ++ e)))) t₅ p₅
   wrote-five a b c d e v w x y z =
       wrote-then s at a (b ++ (c ++ (d ++ e))) t₁ t₅ p₁ p₅ v
       (wrote-then t₁ p₁ b (c ++ (d ++ e)) t₂ t₅ p₂ p₅ w
       (wrote-then t₂ p₂ c (d ++ e) t₃ t₅ p₃ p₅ x (wrote-then t₃ p₃ d e t₄ t₅ p₄ p₅ y z)))
 
-  pub wrote-first : (b : List ℕ) (count : ℕ) → count ≡ countOf b → Wrote s at (ascii "elements ") t₁ p₁ → Wrote t₁ p₁ (decimal count) t₂ p₂
-      → Wrote t₂ p₂ (ascii " bytes ") t₃ p₃ → Wrote t₃ p₃ (decimal (length b)) t₄ p₄ → Wrote t₄ p₄ (ascii "\n") t₅ p₅
-      → Wrote s at (firstLine b) t₅ p₅
+  pub wrote-first : (b : List ℕ) (count : ℕ) → count ≡ countOf b → Printed s at (ascii "elements ") t₁ p₁ → Printed t₁ p₁ (decimal count) t₂ p₂
+      → Printed t₂ p₂ (ascii " bytes ") t₃ p₃ → Printed t₃ p₃ (decimal (length b)) t₄ p₄ → Printed t₄ p₄ (ascii "\n") t₅ p₅
+      → Printed s at (firstLine b) t₅ p₅
   unfolding firstLine
   wrote-first b count e v w x y z =
       wrote-same s at _ (firstLine b) t₅ p₅
       (wrote-five (ascii "elements ") (decimal count) (ascii " bytes ") (decimal (length b)) (ascii "\n") v w x y z)
       (ap (λ (n : ℕ). ascii "elements " ++ (decimal n ++ (ascii " bytes " ++ (decimal (length b) ++ ascii "\n")))) e)
 
-  pub wrote-refused : (r : Registers) → Wrote s at (ascii "answer ") t₁ p₁ → Wrote t₁ p₁ (decimal (r .r3)) t₂ p₂
-      → Wrote t₂ p₂ (ascii " index ") t₃ p₃ → Wrote t₃ p₃ (decimal (r .r4)) t₄ p₄ → Wrote t₄ p₄ (ascii "\n") t₅ p₅
-      → Wrote s at (refusedLine r) t₅ p₅
+  pub wrote-refused : (r : Registers) → Printed s at (ascii "answer ") t₁ p₁ → Printed t₁ p₁ (decimal (r .r3)) t₂ p₂
+      → Printed t₂ p₂ (ascii " index ") t₃ p₃ → Printed t₃ p₃ (decimal (r .r4)) t₄ p₄ → Printed t₄ p₄ (ascii "\n") t₅ p₅
+      → Printed s at (refusedLine r) t₅ p₅
   unfolding refusedLine
   wrote-refused r v w x y z = wrote-five (ascii "answer ") (decimal (r .r3)) (ascii " index ") (decimal (r .r4)) (ascii "\n") v w x y z
 
-  pub wrote-line : {t : List ℕ} {p : ℕ} (index offset id size : ℕ) (v : Verdict) → Wrote s at (decimal index ++ ascii " ") t₁ p₁
-      → Wrote t₁ p₁ (decimal offset ++ ascii " ") t₂ p₂ → Wrote t₂ p₂ (hex4 id) t₃ p₃ → Wrote t₃ p₃ (ascii " ") t₄ p₄
-      → Wrote t₄ p₄ (decimal size) t₅ p₅ → Wrote t₅ p₅ (verdictText v) t p → Wrote s at (line index offset id size v) t p
+  pub wrote-line : {t : List ℕ} {p : ℕ} (index offset id size : ℕ) (v : Verdict) → Printed s at (decimal index ++ ascii " ") t₁ p₁
+      → Printed t₁ p₁ (decimal offset ++ ascii " ") t₂ p₂ → Printed t₂ p₂ (hex4 id) t₃ p₃ → Printed t₃ p₃ (ascii " ") t₄ p₄
+      → Printed t₄ p₄ (decimal size) t₅ p₅ → Printed t₅ p₅ (verdictText v) t p → Printed s at (line index offset id size v) t p
   unfolding line
   wrote-line {t} {p} index offset id size v a b c d e f =
       let rest = hex4 id ++ (ascii " " ++ (decimal size ++ verdictText v)) in
@@ -69,11 +69,11 @@ module _ {s : List ℕ} {at : ℕ} {t₁ t₂ t₃ t₄ t₅ : List ℕ} {p₁ p
       ∙ ap (λ (l : List ℕ). decimal index ++ (ascii " " ++ l)) (append-assoc (decimal offset) (ascii " ") rest))
 
 module _ (s : List ℕ) (at : ℕ) (t : List ℕ) (p : ℕ) (v : Verdict) where
-  pub wrote-ok : (next : ℕ) → v ≡ Good next → Wrote s at (ascii " ok\n") t p → Wrote s at (verdictText v) t p
+  pub wrote-ok : (next : ℕ) → v ≡ Good next → Printed s at (ascii " ok\n") t p → Printed s at (verdictText v) t p
   unfolding verdictText
   wrote-ok next e w = wrote-same s at (ascii " ok\n") (verdictText v) t p w (sym (ap verdictText e))
 
-  pub wrote-bad : (bad : Bad) → v ≡ Faulty bad → Wrote s at (ascii " bad\n") t p → Wrote s at (verdictText v) t p
+  pub wrote-bad : (bad : Bad) → v ≡ Faulty bad → Printed s at (ascii " bad\n") t p → Printed s at (verdictText v) t p
   unfolding verdictText
   wrote-bad bad e w = wrote-same s at (ascii " bad\n") (verdictText v) t p w (sym (ap verdictText e))
 
@@ -122,10 +122,10 @@ pub record Left (was : List ℕ) (at : ℕ) (l is : List ℕ) (end : ℕ) (rest 
   pub bytes : put is end rest ≡ put was at l
 
 module _ (s : List ℕ) (at : ℕ) (l t : List ℕ) (p : ℕ) where
-  left-none : Left s at l t p [] → Wrote s at l t p
+  left-none : Left s at l t p [] → Printed s at l t p
   left-none w = record { place = omega (arith, w .place); bytes = sym (put-nil t p) ∙ w .bytes }
 
-  left-less : (x m u : List ℕ) (q : ℕ) → Left s at l t p (x ++ m) → Wrote t p x u q → Left s at l u q m
+  left-less : (x m u : List ℕ) (q : ℕ) → Left s at l t p (x ++ m) → Printed t p x u q → Left s at l u q m
   left-less x m u q a w =
       record {
         place =
@@ -152,21 +152,21 @@ left-start s at b count e =
     }
 
 module _ (s : List ℕ) (at : ℕ) (l t : List ℕ) (p : ℕ) (b : List ℕ) (count i offset : ℕ) (a : Left s at l t p (lines b (count - i) i offset)) where
-  pub left-end : count ≤ i → Wrote s at l t p
+  pub left-end : count ≤ i → Printed s at l t p
   left-end h = left-none s at l t p (left-same s at l t p _ [] a (lines-end b count i offset h))
 
-  pub left-cut : i < count → length b - offset < 4 → offset ≤ length b → Wrote s at l t p
+  pub left-cut : i < count → length b - offset < 4 → offset ≤ length b → Printed s at l t p
   left-cut h r m = left-none s at l t p (left-same s at l t p _ [] a (lines-cut b count i offset h r m))
 
   module _ (id size : ℕ) (v : Verdict) (u : List ℕ) (q : ℕ) (h : i < count) (r : 4 ≤ length b - offset) (f : id ≡ idAt b offset)
-      (g : size ≡ sizeAt b offset) (j : v ≡ judged threadSet b offset) (w : Wrote t p (line i offset id size v) u q) where
+      (g : size ≡ sizeAt b offset) (j : v ≡ judged threadSet b offset) (w : Printed t p (line i offset id size v) u q) where
     pub left-good : (next : ℕ) → v ≡ Good next → Left s at l u q (lines b (count - (i + 1)) (i + 1) next)
     left-good next e =
         left-less s at l t p (line i offset id size v) (lines b (count - (i + 1)) (i + 1) next) u q
         (left-same s at l t p _ _ a (lines-good b count i offset id size v h r f g j next e))
         w
 
-    pub left-bad : (bad : Bad) → v ≡ Faulty bad → Wrote s at l u q
+    pub left-bad : (bad : Bad) → v ≡ Faulty bad → Printed s at l u q
     left-bad bad e =
         left-none s at l u q
         (left-less s at l t p (line i offset id size v) [] u q
@@ -179,12 +179,12 @@ next-after b i at next v g j h = omega (arith, good-element threadSet b at next 
 
 -- ---- the last line
 module _ (s : List ℕ) (at : ℕ) (t : List ℕ) (p : ℕ) (b : List ℕ) (w : Walked) (e : w ≡ firstBad threadSet b) where
-  pub wrote-done : w ≡ Done → Wrote s at (ascii "answer 0\n") t p → Wrote s at (lastLine (firstBad threadSet b)) t p
+  pub wrote-done : w ≡ Done → Printed s at (ascii "answer 0\n") t p → Printed s at (lastLine (firstBad threadSet b)) t p
   unfolding lastLine
   wrote-done d x = wrote-same s at (ascii "answer 0\n") _ t p x (sym (ap lastLine (sym e ∙ d)))
 
   pub wrote-stopped : (bad : Bad) (place : Place) (a : Answer) (r : Registers) → w ≡ Stopped bad place → a ≡ record { fault = Element bad place; value = 0 }
-      → r ≡ told SetState (a .fault) (a .value) → Wrote s at (refusedLine r) t p → Wrote s at (lastLine (firstBad threadSet b)) t p
+      → r ≡ told SetState (a .fault) (a .value) → Printed s at (refusedLine r) t p → Printed s at (lastLine (firstBad threadSet b)) t p
   unfolding lastLine
   wrote-stopped bad place a r d f g x =
       wrote-same s at (refusedLine r) _ t p x
@@ -201,26 +201,26 @@ short-enough b t e h = go (ltb (length b) 4) (sym e ∙ h)
     go false q = ltb-false _ _ q
 
 module _ (b text u : List ℕ) (n : ℕ) where
-  pub rendered-short : length text < room → _≡_ {A = Outcome} (record { result = Short; text = text }) (rendered b text)
+  pub rendered-short : length text < room → _≡_ {A = RenderOutcome} (record { result = Short; text = text }) (rendered b text)
   unfolding rendered
   rendered-short h = simp (lt-ltb _ _ h)
 
-  listed : room ≤ length text → Wrote text 0 (listing b) u n → _≡_ {A = Outcome} (record { result = Text n; text = u }) (rendered b text)
+  listed : room ≤ length text → Printed text 0 (listing b) u n → _≡_ {A = RenderOutcome} (record { result = Text n; text = u }) (rendered b text)
   unfolding rendered
   listed h w =
       let e : n ≡ length (listing b) = omega (arith, w .place) in
-      ap₂ {A = ℕ} {B = List ℕ} {C = Outcome} (λ m l. record { result = Text m; text = l }) e (w .bytes) ∙ simp (le-ltb _ _ h)
+      ap₂ {A = ℕ} {B = List ℕ} {C = RenderOutcome} (λ m l. record { result = Text m; text = l }) e (w .bytes) ∙ simp (le-ltb _ _ h)
 
-  pub rendered-length : (t : Bool) → room ≤ length text → t ≡ badLength b → t ≡ true → Wrote text 0 (ascii "answer 5\n") u n
-      → _≡_ {A = Outcome} (record { result = Text n; text = u }) (rendered b text)
+  pub rendered-length : (t : Bool) → room ≤ length text → t ≡ badLength b → t ≡ true → Printed text 0 (ascii "answer 5\n") u n
+      → _≡_ {A = RenderOutcome} (record { result = Text n; text = u }) (rendered b text)
   unfolding listing
   rendered-length t h e g w =
       let m : badLength b ≡ true = sym e ∙ g in
       listed h (wrote-same text 0 (ascii "answer 5\n") (listing b) u n w (simp m))
 
-  pub rendered-all : (t : Bool) (x y : List ℕ) (p q : ℕ) → room ≤ length text → t ≡ badLength b → t ≡ false → Wrote text 0 (firstLine b) x p
-      → Wrote x p (lines b (countOf b) 0 4) y q → Wrote y q (lastLine (firstBad threadSet b)) u n
-      → _≡_ {A = Outcome} (record { result = Text n; text = u }) (rendered b text)
+  pub rendered-all : (t : Bool) (x y : List ℕ) (p q : ℕ) → room ≤ length text → t ≡ badLength b → t ≡ false → Printed text 0 (firstLine b) x p
+      → Printed x p (lines b (countOf b) 0 4) y q → Printed y q (lastLine (firstBad threadSet b)) u n
+      → _≡_ {A = RenderOutcome} (record { result = Text n; text = u }) (rendered b text)
   unfolding listing
   rendered-all t x y p q h e g v w z =
       let m : badLength b ≡ false = sym e ∙ g in

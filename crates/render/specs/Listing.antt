@@ -66,12 +66,12 @@ listing b =
 abbrev pub room : ℕ
 room = 442432
 
-pub record Outcome : Type 0 where
+pub record RenderOutcome : Type 0 where
   pub result : Rendered
   pub text : List ℕ
 
 -- A text buffer without that room is refused, and nothing is written; else the listing stands in its first bytes, the rest is untouched.
-unfoldable pub rendered : List ℕ → List ℕ → Outcome
+unfoldable pub rendered : List ℕ → List ℕ → RenderOutcome
 rendered b text =
     cond (ltb (length text) room) (record { result = Short; text = text })
     (record { result = Text (length (listing b)); text = put text 0 (listing b) })

@@ -35,6 +35,6 @@ abbrev pub hex4 : ℕ → List ℕ
 hex4 n = digit (n / 4096 % 16) ∷ digit (n / 256 % 16) ∷ digit (n / 16 % 16) ∷ digit (n % 16) ∷ []
 
 -- `l` was written into `was` from `at` on: the bytes are then `is`, and `end` is the place after
-pub record Wrote (was : List ℕ) (at : ℕ) (l is : List ℕ) (end : ℕ) : Type 0 where
+pub record Printed (was : List ℕ) (at : ℕ) (l is : List ℕ) (end : ℕ) : Type 0 where
   pub place : end ≡ at + length l
   pub bytes : is ≡ put was at l

@@ -9,7 +9,7 @@ use lines::push_lines;
 use text::push;
 ghost use mathlib.Core.Path.{_≡_};
 ghost use lib.ListN.{length};
-ghost use Rattle.render.specs.Listing.{Outcome, rendered, Within};
+ghost use Rattle.render.specs.Listing.{RenderOutcome, rendered, Within};
 
 // The listing's length, or the lent buffer is too short.
 pub enum Rendered {
@@ -21,7 +21,7 @@ pub enum Rendered {
 pub const ROOM: usize = 442432;
 
 pub fn render(b: &[u8], text: &mut [u8]) -> Rendered
-    ensures { λ r. ⌜ _≡_ {A = Outcome} (record { result = r; text = now (text .exit) }) (rendered (now (b .entry)) (now (text .entry))) ⌝ }
+    ensures { λ r. ⌜ _≡_ {A = RenderOutcome} (record { result = r; text = now (text .exit) }) (rendered (now (b .entry)) (now (text .entry))) ⌝ }
     ensures { λ r. ⌜ Within r (length (now (text .exit))) ⌝ }
 {
     if text.len() < ROOM {

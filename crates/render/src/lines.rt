@@ -19,13 +19,13 @@ use rules::Usage;
 ghost use Prim.Native.Nat.{_+_, _≤_, _<_};
 ghost use lib.ListN.{length};
 ghost use Rattle.gsb.specs.Walk.{countOf, firstBad};
-ghost use Rattle.render.specs.Text.{Wrote};
+ghost use Rattle.render.specs.Text.{Printed};
 ghost use Rattle.render.specs.Listing.{threadSet, firstLine, verdictText, line, lines, refusedLine, lastLine};
 
 // The count has at most ten digits, the length five: 32 characters with the words.
 pub fn push_first(b: &[u8], text: &mut [u8], at: usize) -> usize
     requires { ⌜ (4 ≤ length (now b)) × (length (now b) ≤ 65536) × (at + 32 ≤ length (now text)) ⌝ }
-    ensures { λ r. ⌜ Wrote (now (text .entry)) at (firstLine (now (b .entry))) (now (text .exit)) r × (r ≤ at + 32) ⌝ }
+    ensures { λ r. ⌜ Printed (now (text .entry)) at (firstLine (now (b .entry))) (now (text .exit)) r × (r ≤ at + 32) ⌝ }
 {
     let count = get32(b, 0) as u64;
     let mut end = push(text, at, b"elements ");
@@ -37,7 +37,7 @@ pub fn push_first(b: &[u8], text: &mut [u8], at: usize) -> usize
 
 fn push_verdict(text: &mut [u8], at: usize, verdict: Verdict) -> usize
     requires { ⌜ at + 5 ≤ length (now text) ⌝ }
-    ensures { λ r. ⌜ Wrote (now (text .entry)) at (verdictText verdict) (now (text .exit)) r × (r ≤ at + 5) ⌝ }
+    ensures { λ r. ⌜ Printed (now (text .entry)) at (verdictText verdict) (now (text .exit)) r × (r ≤ at + 5) ⌝ }
 {
     match verdict {
         Verdict::Good(_) => push(text, at, b" ok\n"),
@@ -56,7 +56,7 @@ fn push_line(
     verdict: Verdict,
 ) -> usize
     requires { ⌜ (index < 100000) × (offset < 100000) × (size < 100000) × (at + 27 ≤ length (now text)) ⌝ }
-    ensures { λ r. ⌜ Wrote (now (text .entry)) at (line index offset id size verdict) (now (text .exit)) r × (r ≤ at + 27) ⌝ }
+    ensures { λ r. ⌜ Printed (now (text .entry)) at (line index offset id size verdict) (now (text .exit)) r × (r ≤ at + 27) ⌝ }
 {
     let mut end = push_field(text, at, index);
     end = push_field(text, end, offset);
@@ -69,7 +69,7 @@ fn push_line(
 // The count is never trusted: at most 16,383 elements have a header that fits, and each line takes at most 27 bytes.
 pub fn push_lines(b: &[u8], text: &mut [u8], at: usize) -> usize
     requires { ⌜ (4 ≤ length (now b)) × (length (now b) ≤ 65536) × (at + 442341 ≤ length (now text)) ⌝ }
-    ensures { λ r. ⌜ Wrote (now (text .entry)) at (lines (now (b .entry)) (countOf (now (b .entry))) 0 4) (now (text .exit)) r × (r ≤ at + 442341) ⌝ }
+    ensures { λ r. ⌜ Printed (now (text .entry)) at (lines (now (b .entry)) (countOf (now (b .entry))) 0 4) (now (text .exit)) r × (r ≤ at + 442341) ⌝ }
 {
     let count = get32(b, 0) as usize;
     let mut end = at;
@@ -98,7 +98,7 @@ pub fn push_lines(b: &[u8], text: &mut [u8], at: usize) -> usize
 
 fn push_refused(text: &mut [u8], at: usize, answer: Registers) -> usize
     requires { ⌜ at + 55 ≤ length (now text) ⌝ }
-    ensures { λ r. ⌜ Wrote (now (text .entry)) at (refusedLine answer) (now (text .exit)) r × (r ≤ at + 55) ⌝ }
+    ensures { λ r. ⌜ Printed (now (text .entry)) at (refusedLine answer) (now (text .exit)) r × (r ≤ at + 55) ⌝ }
 {
     let mut end = push(text, at, b"answer ");
     end = push_decimal(text, end, answer.r3, 20);
@@ -109,7 +109,7 @@ fn push_refused(text: &mut [u8], at: usize, answer: Registers) -> usize
 
 pub fn push_answer(b: &[u8], text: &mut [u8], at: usize) -> usize
     requires { ⌜ (4 ≤ length (now b)) × (at + 55 ≤ length (now text)) ⌝ }
-    ensures { λ r. ⌜ Wrote (now (text .entry)) at (lastLine (firstBad threadSet (now (b .entry)))) (now (text .exit)) r × (r ≤ at + 55) ⌝ }
+    ensures { λ r. ⌜ Printed (now (text .entry)) at (lastLine (firstBad threadSet (now (b .entry)))) (now (text .exit)) r × (r ≤ at + 55) ⌝ }
 {
     let k = Context {
         usage: Usage::ThreadSet,

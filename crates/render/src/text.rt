@@ -4,11 +4,11 @@ ghost use mathlib.Core.Path.{_≡_};
 ghost use mathlib.Core.List.{_++_};
 ghost use Prim.Native.Nat.{_+_, _^_, _≤_, _<_};
 ghost use lib.ListN.{length};
-ghost use Rattle.render.specs.Text.{Wrote, ascii, digit, shown, decimal, hex4};
+ghost use Rattle.render.specs.Text.{Printed, ascii, digit, shown, decimal, hex4};
 
 pub fn push(text: &mut [u8], at: usize, s: &[u8]) -> usize
     requires { ⌜ at + length (now s) ≤ length (now text) ⌝ }
-    ensures { λ r. ⌜ Wrote (now (text .entry)) at (now (s .entry)) (now (text .exit)) r ⌝ }
+    ensures { λ r. ⌜ Printed (now (text .entry)) at (now (s .entry)) (now (text .exit)) r ⌝ }
 {
     copy(s, 0, text, at, s.len());
     at + s.len()
@@ -25,7 +25,7 @@ fn digit_of(d: u64) -> u8
 // At most `most` digits. It calls itself for those in front of the last, so that they are written in order.
 fn push_shown(text: &mut [u8], at: usize, n: u64, most: usize) -> usize
     requires { ⌜ at + length (shown most n) ≤ length (now text) ⌝ }
-    ensures { λ r. ⌜ Wrote (now (text .entry)) at (shown most n) (now (text .exit)) r ⌝ }
+    ensures { λ r. ⌜ Printed (now (text .entry)) at (shown most n) (now (text .exit)) r ⌝ }
 {
     if most == 0 {
         return at;
@@ -42,7 +42,7 @@ fn push_shown(text: &mut [u8], at: usize, n: u64, most: usize) -> usize
 // A number that is known to have at most `most` digits, so that the callers count room in plain numbers.
 pub fn push_decimal(text: &mut [u8], at: usize, n: u64, most: usize) -> usize
     requires { ⌜ (0 < most) × (most ≤ 20) × (n < 10 ^ most) × (at + most ≤ length (now text)) ⌝ }
-    ensures { λ r. ⌜ Wrote (now (text .entry)) at (decimal n) (now (text .exit)) r × (r ≤ at + most) ⌝ }
+    ensures { λ r. ⌜ Printed (now (text .entry)) at (decimal n) (now (text .exit)) r × (r ≤ at + most) ⌝ }
 {
     push_shown(text, at, n, most)
 }
@@ -50,7 +50,7 @@ pub fn push_decimal(text: &mut [u8], at: usize, n: u64, most: usize) -> usize
 // An index or an offset, and a space.
 pub fn push_field(text: &mut [u8], at: usize, n: usize) -> usize
     requires { ⌜ (n < 100000) × (at + 6 ≤ length (now text)) ⌝ }
-    ensures { λ r. ⌜ Wrote (now (text .entry)) at (decimal n ++ ascii " ") (now (text .exit)) r × (r ≤ at + 6) ⌝ }
+    ensures { λ r. ⌜ Printed (now (text .entry)) at (decimal n ++ ascii " ") (now (text .exit)) r × (r ≤ at + 6) ⌝ }
 {
     let end = push_decimal(text, at, n as u64, 5);
     push(text, end, b" ")
@@ -58,7 +58,7 @@ pub fn push_field(text: &mut [u8], at: usize, n: usize) -> usize
 
 pub fn push_hex4(text: &mut [u8], at: usize, n: u16) -> usize
     requires { ⌜ at + 4 ≤ length (now text) ⌝ }
-    ensures { λ r. ⌜ Wrote (now (text .entry)) at (hex4 n) (now (text .exit)) r ⌝ }
+    ensures { λ r. ⌜ Printed (now (text .entry)) at (hex4 n) (now (text .exit)) r ⌝ }
 {
     let v = n as u64;
     text[at] = digit_of(v / 4096 % 16);

@@ -34,14 +34,14 @@ use Rattle.exits.specs.Exits.{known, outputOf}
 use Rattle.admission.specs.declared.Admission.{Admission}
 use Rattle.admission.specs.declared.Admission.the-variants.{Admitted, Refused}
 use Rattle.admission.specs.declared.Target.{Target}
-use Rattle.admission.specs.declared.Target.the-variants.{Turned, At}
-use Rattle.run.specs.declared.Spot.{Spot}
-use Rattle.run.specs.declared.Spot.the-variants.{Off, Slot}
+use Rattle.admission.specs.declared.Target.the-variants.{Refused as TargetRefused, At}
+use Rattle.run.specs.declared.RunTarget.{RunTarget}
+use Rattle.run.specs.declared.RunTarget.the-variants.{Refused as RunRefused, Slot}
 use Rattle.admission.specs.Refusals.{Outcome, success, refusal, refuse, decide, judgement, Passed}
 use Rattle.admission.specs.Target.{targetTests, baseOf, targetOf}
 use Rattle.state.specs.State.{contextOf, isStopped, faultOf}
-use Rattle.run.specs.Run.{runBits, inputSize, outputSize, lentTests, effectFault, exitTests, spotTests, inputOf, contentTests, runTests, cachedTests, cachedGood, ranStore, ran, runVcpu}
-use Rattle.run.specs.Private.{lentGood, exitGood, spotOf, contentGood, judgedRun}
+use Rattle.run.specs.Run.{runBits, inputSize, outputSize, lentTests, effectFault, exitTests, runTargetTests, inputOf, contentTests, runTests, cachedTests, cachedGood, ranStore, ran, runVcpu}
+use Rattle.run.specs.Private.{lentGood, exitGood, runTargetOf, contentGood, judgedRun}
 use Rattle.admission.proofs.Judging.{begin-refused, begin-admitted, all-refused, all-admitted, was-refused, was-admitted, judged-passed}
 use Rattle.admission.proofs.Targets.{target-judged, target-found}
 use Rattle.state.proofs.Buffers.{walked-as, ready-as}
@@ -95,9 +95,9 @@ module _ (s : List ℕ) (base need inputLength outputLength i o : ℕ) (ei : i �
             unfolding lentBy
             lent-all h = lent-as true true false false (sym ex ∙ not-false x hx) (sym ey ∙ not-false y hy) (simp (le-ltb _ _ k, le-ltb _ _ m)) (le-ltb _ _ h)
 
--- ---- the answers of `spot_of`
+-- ---- the answers of `run_target_of`
 module _ (l : Layout) (s : List ℕ) (flags guest vcpu need inputLength outputLength : ℕ) (a : Target) (q : a ≡ targetOf l s runBits flags false guest vcpu) where
-  abbrev slotted : Spot
+  abbrev slotted : RunTarget
   slotted = Slot (baseOf l s false guest vcpu) (inputSize s (baseOf l s false guest vcpu))
 
   abbrev firsts : List (Bool × Fault)
@@ -106,26 +106,26 @@ module _ (l : Layout) (s : List ℕ) (flags guest vcpu need inputLength outputLe
   abbrev lents : List (Bool × Fault)
   lents = lentTests s (baseOf l s false guest vcpu) need inputLength outputLength
 
-  pub spot-turned : (f : Fault) → a ≡ Turned f → Off f ≡ spotOf l s flags guest vcpu need inputLength outputLength
-  unfolding spotOf
-  spot-turned f h = sym (begin-refused Off slotted firsts lents f (target-judged l s runBits flags false guest vcpu a q f h))
+  pub run-target-refused : (f : Fault) → a ≡ TargetRefused f → RunRefused f ≡ runTargetOf l s flags guest vcpu need inputLength outputLength
+  unfolding runTargetOf
+  run-target-refused f h = sym (begin-refused RunRefused slotted firsts lents f (target-judged l s runBits flags false guest vcpu a q f h))
 
   module _ (base : ℕ) (h : a ≡ At base) (v : Admission) (w : v ≡ lentGood s base need inputLength outputLength) where
     lent-at : judgement lents ≡ v
     unfolding lentGood
     lent-at = ap (λ (x : ℕ). judgement (lentTests s x need inputLength outputLength)) (target-found l s runBits flags false guest vcpu a q base h .1) ∙ sym w
 
-    spot-past : spotOf l s flags guest vcpu need inputLength outputLength ≡ firstOf Off lents slotted
-    unfolding spotOf
-    spot-past = begin-admitted Off slotted firsts lents (target-found l s runBits flags false guest vcpu a q base h .0)
+    run-target-past : runTargetOf l s flags guest vcpu need inputLength outputLength ≡ firstOf RunRefused lents slotted
+    unfolding runTargetOf
+    run-target-past = begin-admitted RunRefused slotted firsts lents (target-found l s runBits flags false guest vcpu a q base h .0)
 
-    pub spot-lent : (f : Fault) → v ≡ Refused f → Off f ≡ spotOf l s flags guest vcpu need inputLength outputLength
-    spot-lent f k = sym (spot-past ∙ all-refused Off slotted lents f (lent-at ∙ k))
+    pub run-target-lent : (f : Fault) → v ≡ Refused f → RunRefused f ≡ runTargetOf l s flags guest vcpu need inputLength outputLength
+    run-target-lent f k = sym (run-target-past ∙ all-refused RunRefused slotted lents f (lent-at ∙ k))
 
-    pub spot-found : (n : ℕ) → v ≡ Admitted → n ≡ be s (base + 8) 8 → Slot base n ≡ spotOf l s flags guest vcpu need inputLength outputLength
-    spot-found n k e =
+    pub run-target-found : (n : ℕ) → v ≡ Admitted → n ≡ be s (base + 8) 8 → Slot base n ≡ runTargetOf l s flags guest vcpu need inputLength outputLength
+    run-target-found n k e =
         let b = target-found l s runBits flags false guest vcpu a q base h .1 in
-        ap (Slot base) (e ∙ sym (input-at s base)) ∙ ap (λ (x : ℕ). Slot x (inputSize s x)) (sym b) ∙ sym (spot-past ∙ all-admitted Off slotted lents (lent-at ∙ k))
+        ap (Slot base) (e ∙ sym (input-at s base)) ∙ ap (λ (x : ℕ). Slot x (inputSize s x)) (sym b) ∙ sym (run-target-past ∙ all-admitted RunRefused slotted lents (lent-at ∙ k))
 
 -- ---- the answers of `judge_exit` and `judge_content`
 module _ (l : Layout) (s effect : List ℕ) (exit : ℕ) (x : Bool) (ex : x ≡ known exit) where
@@ -170,31 +170,31 @@ module _ (l : Layout) (s input effect : List ℕ) (exit c : ℕ) (k : c ≡ capa
   unfolding contentBy exitGood
   content-exit v d e = e ∙ content-as Done d
 
--- ---- back from a spot
-off-same : (f g : Fault) → Off f ≡ Off g → f ≡ g
-off-same f g e = cc
+-- ---- back from a run's target
+run-refused-same : (f g : Fault) → RunRefused f ≡ RunRefused g → f ≡ g
+run-refused-same f g e = cc
 
-off-not : {base n : ℕ} (f : Fault) → Slot base n ≡ Off f → ⊥
-off-not f e = let z : _≡_ {A = ℕ} 0 1 = cc in omega arith
+run-refused-not : {base n : ℕ} (f : Fault) → Slot base n ≡ RunRefused f → ⊥
+run-refused-not f e = let z : _≡_ {A = ℕ} 0 1 = cc in omega arith
 
-slot-not : {base n : ℕ} (f : Fault) → Off f ≡ Slot base n → ⊥
+slot-not : {base n : ℕ} (f : Fault) → RunRefused f ≡ Slot base n → ⊥
 slot-not f e = let z : _≡_ {A = ℕ} 0 1 = cc in omega arith
 
 slot-same : {b c m n : ℕ} → Slot b m ≡ Slot c n → (b ≡ c) × (m ≡ n)
 slot-same e = (cc, cc)
 
 -- what the tests 1 to 12 say of the buffers and of the slot
-pub record Spotted (l : Layout) (s : List ℕ) (base n inputLength outputLength : ℕ) : Type 0 where
+pub record RunFound (l : Layout) (s : List ℕ) (base n inputLength outputLength : ℕ) : Type 0 where
   pub long : length s ≡ l .size
   pub room : base + slotBytes ≤ l .size
   pub some : 4 ≤ n
   pub lent : n ≤ inputLength
   pub out : 124 ≤ outputLength
 
-pub spotted : (l : Layout) → Sound l → (s : List ℕ) (flags guest vcpu need inputLength outputLength : ℕ) → Passed (spotTests l s flags guest vcpu need inputLength outputLength)
-    → Spotted l s (baseOf l s false guest vcpu) (inputSize s (baseOf l s false guest vcpu)) inputLength outputLength
+pub run-found : (l : Layout) → Sound l → (s : List ℕ) (flags guest vcpu need inputLength outputLength : ℕ) → Passed (runTargetTests l s flags guest vcpu need inputLength outputLength)
+    → RunFound l s (baseOf l s false guest vcpu) (inputSize s (baseOf l s false guest vcpu)) inputLength outputLength
 unfolding baseOf
-spotted l so s flags guest vcpu need inputLength outputLength p =
+run-found l so s flags guest vcpu need inputLength outputLength p =
     let k : slotOf l (header l s) guest vcpu < l .slots = leb-false _ _ (p .1 .1 .1 .0) in
     let base = baseOf l s false guest vcpu in
     let t = p .1 .1 .1 .1 in
@@ -212,77 +212,77 @@ spotted l so s flags guest vcpu need inputLength outputLength p =
     or-left true b e = e
     or-left false b e = refl
 
-module _ (l : Layout) (so : Sound l) (s : List ℕ) (flags guest vcpu need inputLength outputLength : ℕ) (a : Spot) (q : a ≡ spotOf l s flags guest vcpu need inputLength outputLength) (base n : ℕ) (h : a ≡ Slot base n) where
-  found : (judgement (spotTests l s flags guest vcpu need inputLength outputLength) ≡ Admitted) × (Slot (baseOf l s false guest vcpu) (inputSize s (baseOf l s false guest vcpu)) ≡ Slot base n)
-  unfolding spotOf
-  found = was-admitted Off off-same (Slot (baseOf l s false guest vcpu) (inputSize s (baseOf l s false guest vcpu))) off-not (spotTests l s flags guest vcpu need inputLength outputLength) (Slot base n) slot-not (sym q ∙ h)
+module _ (l : Layout) (so : Sound l) (s : List ℕ) (flags guest vcpu need inputLength outputLength : ℕ) (a : RunTarget) (q : a ≡ runTargetOf l s flags guest vcpu need inputLength outputLength) (base n : ℕ) (h : a ≡ Slot base n) where
+  found : (judgement (runTargetTests l s flags guest vcpu need inputLength outputLength) ≡ Admitted) × (Slot (baseOf l s false guest vcpu) (inputSize s (baseOf l s false guest vcpu)) ≡ Slot base n)
+  unfolding runTargetOf
+  found = was-admitted RunRefused run-refused-same (Slot (baseOf l s false guest vcpu) (inputSize s (baseOf l s false guest vcpu))) run-refused-not (runTargetTests l s flags guest vcpu need inputLength outputLength) (Slot base n) slot-not (sym q ∙ h)
 
-  spot-is : Spotted l s base n inputLength outputLength
-  spot-is =
+  run-found-is : RunFound l s base n inputLength outputLength
+  run-found-is =
       let e = slot-same (found .1) in
-      let p = spotted l so s flags guest vcpu need inputLength outputLength (judged-passed (spotTests l s flags guest vcpu need inputLength outputLength) (found .0)) in
-      subst (λ (x : ℕ). Spotted l s x n inputLength outputLength) (e .0) (subst (λ (y : ℕ). Spotted l s (baseOf l s false guest vcpu) y inputLength outputLength) (e .1) p)
+      let p = run-found l so s flags guest vcpu need inputLength outputLength (judged-passed (runTargetTests l s flags guest vcpu need inputLength outputLength) (found .0)) in
+      subst (λ (x : ℕ). RunFound l s x n inputLength outputLength) (e .0) (subst (λ (y : ℕ). RunFound l s (baseOf l s false guest vcpu) y inputLength outputLength) (e .1) p)
 
-  pub spot-long : length s ≡ l .size
-  spot-long = spot-is .long
+  pub run-found-long : length s ≡ l .size
+  run-found-long = run-found-is .long
 
-  pub spot-lends : n ≤ inputLength
-  spot-lends = spot-is .lent
+  pub run-found-lends : n ≤ inputLength
+  run-found-lends = run-found-is .lent
 
-  pub spot-part : (input part : List ℕ) → length input ≡ inputLength → part ≡ bytesAt input 0 n → 4 ≤ length part
-  spot-part input part e p = omega (arith, ap length p, length-bytesAt input 0 n (omega (arith, spot-is .lent, e)), spot-is .some)
+  pub run-found-part : (input part : List ℕ) → length input ≡ inputLength → part ≡ bytesAt input 0 n → 4 ≤ length part
+  run-found-part input part e p = omega (arith, ap length p, length-bytesAt input 0 n (omega (arith, run-found-is .lent, e)), run-found-is .some)
 
 -- ---- the answers of `judge_cached`
-module _ (l : Layout) (e : l ≡ small) (s : List ℕ) (flags guest vcpu need inputLength outputLength : ℕ) (effect : List ℕ) (exit : ℕ) (a : Spot) (q : a ≡ spotOf l s flags guest vcpu need inputLength outputLength) where
+module _ (l : Layout) (e : l ≡ small) (s : List ℕ) (flags guest vcpu need inputLength outputLength : ℕ) (effect : List ℕ) (exit : ℕ) (a : RunTarget) (q : a ≡ runTargetOf l s flags guest vcpu need inputLength outputLength) where
   cached-as : judgement (cachedTests l s flags guest vcpu need inputLength outputLength effect exit) ≡ cachedGood small s flags guest vcpu need inputLength outputLength effect exit
   unfolding cachedGood
   cached-as = ap (λ (k : Layout). judgement (cachedTests k s flags guest vcpu need inputLength outputLength effect exit)) e
 
-  pub cached-off : (f : Fault) → a ≡ Off f → Refused f ≡ cachedGood small s flags guest vcpu need inputLength outputLength effect exit
-  unfolding spotOf
-  cached-off f h =
-      let w = was-refused Off off-same (Slot (baseOf l s false guest vcpu) (inputSize s (baseOf l s false guest vcpu))) off-not (spotTests l s flags guest vcpu need inputLength outputLength) f (sym q ∙ h) in
-      sym (begin-refused Refused Admitted (spotTests l s flags guest vcpu need inputLength outputLength) (exitTests l s effect exit) f w) ∙ cached-as
+  pub cached-refused : (f : Fault) → a ≡ RunRefused f → Refused f ≡ cachedGood small s flags guest vcpu need inputLength outputLength effect exit
+  unfolding runTargetOf
+  cached-refused f h =
+      let w = was-refused RunRefused run-refused-same (Slot (baseOf l s false guest vcpu) (inputSize s (baseOf l s false guest vcpu))) run-refused-not (runTargetTests l s flags guest vcpu need inputLength outputLength) f (sym q ∙ h) in
+      sym (begin-refused Refused Admitted (runTargetTests l s flags guest vcpu need inputLength outputLength) (exitTests l s effect exit) f w) ∙ cached-as
 
   pub cached-exit : (so : Sound l) (base n : ℕ) (v : Admission) → a ≡ Slot base n → v ≡ exitGood l s effect exit → v ≡ cachedGood small s flags guest vcpu need inputLength outputLength effect exit
   unfolding exitGood
   cached-exit so base n v h w =
-      w ∙ sym (begin-admitted Refused Admitted (spotTests l s flags guest vcpu need inputLength outputLength) (exitTests l s effect exit) (found l so s flags guest vcpu need inputLength outputLength a q base n h .0)) ∙ cached-as
+      w ∙ sym (begin-admitted Refused Admitted (runTargetTests l s flags guest vcpu need inputLength outputLength) (exitTests l s effect exit) (found l so s flags guest vcpu need inputLength outputLength a q base n h .0)) ∙ cached-as
 
 -- ---- the answers of `judge_run`
-module _ (l : Layout) (s : List ℕ) (flags guest vcpu : ℕ) (input : List ℕ) (outputLength : ℕ) (effect : List ℕ) (exit : ℕ) (a : Spot) (q : a ≡ spotOf l s flags guest vcpu 0 (length input) outputLength) where
-  abbrev there : Spot
+module _ (l : Layout) (s : List ℕ) (flags guest vcpu : ℕ) (input : List ℕ) (outputLength : ℕ) (effect : List ℕ) (exit : ℕ) (a : RunTarget) (q : a ≡ runTargetOf l s flags guest vcpu 0 (length input) outputLength) where
+  abbrev there : RunTarget
   there = Slot (baseOf l s false guest vcpu) (inputSize s (baseOf l s false guest vcpu))
 
-  abbrev spots : List (Bool × Fault)
-  spots = spotTests l s flags guest vcpu 0 (length input) outputLength
+  abbrev earlier : List (Bool × Fault)
+  earlier = runTargetTests l s flags guest vcpu 0 (length input) outputLength
 
   abbrev contents : List (Bool × Fault)
   contents = contentTests l s (inputOf s (baseOf l s false guest vcpu) input) effect exit
 
-  pub run-off : (f : Fault) → a ≡ Off f → Off f ≡ judgedRun l s flags guest vcpu input outputLength effect exit
-  unfolding judgedRun spotOf
-  run-off f h = sym (begin-refused Off there spots contents f (was-refused Off off-same there off-not spots f (sym q ∙ h)))
+  pub run-refused : (f : Fault) → a ≡ RunRefused f → RunRefused f ≡ judgedRun l s flags guest vcpu input outputLength effect exit
+  unfolding judgedRun runTargetOf
+  run-refused f h = sym (begin-refused RunRefused there earlier contents f (was-refused RunRefused run-refused-same there run-refused-not earlier f (sym q ∙ h)))
 
   module _ (base n : ℕ) (h : a ≡ Slot base n) where
-    run-found : (judgement spots ≡ Admitted) × (there ≡ Slot base n)
-    unfolding spotOf
-    run-found = was-admitted Off off-same there off-not spots (Slot base n) slot-not (sym q ∙ h)
+    run-there : (judgement earlier ≡ Admitted) × (there ≡ Slot base n)
+    unfolding runTargetOf
+    run-there = was-admitted RunRefused run-refused-same there run-refused-not earlier (Slot base n) slot-not (sym q ∙ h)
 
-    run-past : judgedRun l s flags guest vcpu input outputLength effect exit ≡ firstOf Off contents there
+    run-past : judgedRun l s flags guest vcpu input outputLength effect exit ≡ firstOf RunRefused contents there
     unfolding judgedRun
-    run-past = begin-admitted Off there spots contents (run-found .0)
+    run-past = begin-admitted RunRefused there earlier contents (run-there .0)
 
     module _ (part : List ℕ) (p : part ≡ bytesAt input 0 n) (v : Admission) (w : v ≡ contentGood l s part effect exit) where
       judged-content : judgement contents ≡ v
       unfolding contentGood
-      judged-content = ap (λ (x : List ℕ). judgement (contentTests l s x effect exit)) (ap (bytesAt input 0) (slot-same (run-found .1) .1) ∙ sym p) ∙ sym w
+      judged-content = ap (λ (x : List ℕ). judgement (contentTests l s x effect exit)) (ap (bytesAt input 0) (slot-same (run-there .1) .1) ∙ sym p) ∙ sym w
 
-      pub run-content : (f : Fault) → v ≡ Refused f → Off f ≡ judgedRun l s flags guest vcpu input outputLength effect exit
-      run-content f k = sym (run-past ∙ all-refused Off there contents f (judged-content ∙ k))
+      pub run-content : (f : Fault) → v ≡ Refused f → RunRefused f ≡ judgedRun l s flags guest vcpu input outputLength effect exit
+      run-content f k = sym (run-past ∙ all-refused RunRefused there contents f (judged-content ∙ k))
 
       pub run-slot : v ≡ Admitted → Slot base n ≡ judgedRun l s flags guest vcpu input outputLength effect exit
-      run-slot k = sym (run-past ∙ all-admitted Off there contents (judged-content ∙ k) ∙ run-found .1)
+      run-slot k = sym (run-past ∙ all-admitted RunRefused there contents (judged-content ∙ k) ∙ run-there .1)
 
 -- ---- `run_at` and the call
 pub stopped-not : (v : Walked) → isStopped v ≡ false → v ≡ Done
@@ -305,21 +305,21 @@ module _ (base : ℕ) (s input output effect : List ℕ) (exit : ℕ) where
       ap₂ (λ (x : Answer) (y : List ℕ). record { answer = x; store = u; buffer = y }) d c ∙ ap (λ (y : List ℕ). record { answer = success exit; store = y; buffer = put output 0 (outputOf base y exit) }) z
 
 -- a run that was judged good
-module _ (l : Layout) (s : List ℕ) (flags guest vcpu : ℕ) (input : List ℕ) (outputLength : ℕ) (effect : List ℕ) (exit : ℕ) (a : Spot) (q : a ≡ judgedRun l s flags guest vcpu input outputLength effect exit) where
-  abbrev at-slot : Spot
+module _ (l : Layout) (s : List ℕ) (flags guest vcpu : ℕ) (input : List ℕ) (outputLength : ℕ) (effect : List ℕ) (exit : ℕ) (a : RunTarget) (q : a ≡ judgedRun l s flags guest vcpu input outputLength effect exit) where
+  abbrev at-slot : RunTarget
   at-slot = Slot (baseOf l s false guest vcpu) (inputSize s (baseOf l s false guest vcpu))
 
   abbrev tests : List (Bool × Fault)
   tests = runTests l s flags guest vcpu input outputLength effect exit
 
-  call-turned : (f : Fault) → a ≡ Off f → judgement tests ≡ Refused f
+  call-turned : (f : Fault) → a ≡ RunRefused f → judgement tests ≡ Refused f
   unfolding judgedRun
-  call-turned f h = was-refused Off off-same at-slot off-not tests f (sym q ∙ h)
+  call-turned f h = was-refused RunRefused run-refused-same at-slot run-refused-not tests f (sym q ∙ h)
 
   module _ (base n : ℕ) (h : a ≡ Slot base n) where
     call-found : (judgement tests ≡ Admitted) × (at-slot ≡ Slot base n)
     unfolding judgedRun
-    call-found = was-admitted Off off-same at-slot off-not tests (Slot base n) slot-not (sym q ∙ h)
+    call-found = was-admitted RunRefused run-refused-same at-slot run-refused-not tests (Slot base n) slot-not (sym q ∙ h)
 
     call-part : (part : List ℕ) → part ≡ bytesAt input 0 n → part ≡ inputOf s (baseOf l s false guest vcpu) input
     call-part part p = p ∙ ap (bytesAt input 0) (sym (slot-same (call-found .1) .1))
@@ -331,26 +331,26 @@ module _ (l : Layout) (s : List ℕ) (flags guest vcpu : ℕ) (input : List ℕ)
     call-known = not-false _ (passed .1 .1 .1 .1 .1 .1 .1 .1 .1 .0)
 
     module _ (so : Sound l) where
-      is-spot : Spotted l s base n (length input) outputLength
-      is-spot =
+      is-found : RunFound l s base n (length input) outputLength
+      is-found =
           let p = passed in
           let z = slot-same (call-found .1) in
-          let y = spotted l so s flags guest vcpu 0 (length input) outputLength (p .0, (p .1 .0, (p .1 .1 .0, (p .1 .1 .1 .0, (p .1 .1 .1 .1 .0, (p .1 .1 .1 .1 .1 .0, (p .1 .1 .1 .1 .1 .1 .0, (p .1 .1 .1 .1 .1 .1 .1 .0, tt)))))))) in
-          subst (λ (x : ℕ). Spotted l s x n (length input) outputLength) (z .0) (subst (λ (w : ℕ). Spotted l s (baseOf l s false guest vcpu) w (length input) outputLength) (z .1) y)
+          let y = run-found l so s flags guest vcpu 0 (length input) outputLength (p .0, (p .1 .0, (p .1 .1 .0, (p .1 .1 .1 .0, (p .1 .1 .1 .1 .0, (p .1 .1 .1 .1 .1 .0, (p .1 .1 .1 .1 .1 .1 .0, (p .1 .1 .1 .1 .1 .1 .1 .0, tt)))))))) in
+          subst (λ (x : ℕ). RunFound l s x n (length input) outputLength) (z .0) (subst (λ (w : ℕ). RunFound l s (baseOf l s false guest vcpu) w (length input) outputLength) (z .1) y)
 
       pub call-lends : n ≤ length input
-      call-lends = is-spot .lent
+      call-lends = is-found .lent
 
       pub call-room : base + slotBytes ≤ length s
-      call-room = omega (arith, is-spot .room, is-spot .long)
+      call-room = omega (arith, is-found .room, is-found .long)
 
       pub call-out : 124 ≤ outputLength
-      call-out = is-spot .out
+      call-out = is-found .out
 
       pub call-input : (part : List ℕ) → part ≡ bytesAt input 0 n → AllReady base part (length s)
       call-input part p =
           let w : firstBad (contextOf l s RunInput) part ≡ Done = ap (firstBad (contextOf l s RunInput)) (call-part part p) ∙ stopped-not _ (passed .1 .1 .1 .1 .1 .1 .1 .1 .0) in
-          let k : 4 ≤ length part = omega (arith, ap length p, length-bytesAt input 0 n (omega (arith, is-spot .lent)), is-spot .some) in
+          let k : 4 ≤ length part = omega (arith, ap length p, length-bytesAt input 0 n (omega (arith, is-found .lent)), is-found .some) in
           ready-as (contextOf l s RunInput) base (length s) part w call-room k
 
       pub call-effect : AllReady base effect (length s)
@@ -360,7 +360,7 @@ module _ (l : Layout) (s : List ℕ) (flags guest vcpu : ℕ) (input : List ℕ)
 
 -- the call
 module _ (l : Layout) (e : l ≡ small) (s : List ℕ) (flags guest vcpu : ℕ) (input output effect : List ℕ) (exit outputLength : ℕ) (m : outputLength ≡ length output)
-    (a : Spot) (q : a ≡ judgedRun l s flags guest vcpu input outputLength effect exit) where
+    (a : RunTarget) (q : a ≡ judgedRun l s flags guest vcpu input outputLength effect exit) where
   abbrev done : Outcome
   done = ran (baseOf l s false guest vcpu) s (inputOf s (baseOf l s false guest vcpu) input) output effect exit
 
@@ -368,7 +368,7 @@ module _ (l : Layout) (e : l ≡ small) (s : List ℕ) (flags guest vcpu : ℕ) 
   unfolding runVcpu decide
   call-as = ap (λ (n : ℕ). firstOf (refuse s output) (runTests l s flags guest vcpu input n effect exit) done) m ∙ ap (λ (k : Layout). runVcpu k s flags guest vcpu input output effect exit) e
 
-  pub call-off : (r : Answer) (f : Fault) → a ≡ Off f → r ≡ refusal f → _≡_ {A = Outcome} (record { answer = r; store = s; buffer = output }) (runVcpu small s flags guest vcpu input output effect exit)
+  pub call-off : (r : Answer) (f : Fault) → a ≡ RunRefused f → r ≡ refusal f → _≡_ {A = Outcome} (record { answer = r; store = s; buffer = output }) (runVcpu small s flags guest vcpu input output effect exit)
   call-off r f h i =
       ap (λ (x : Answer). record { answer = x; store = s; buffer = output }) i
       ∙ sym (all-refused (refuse s output) done (runTests l s flags guest vcpu input outputLength effect exit) f (call-turned l s flags guest vcpu input outputLength effect exit a q f h)) ∙ call-as

@@ -57,8 +57,8 @@ exitTests l s effect exit =
     ∷ []
 
 -- 1 to 12
-abbrev pub spotTests : Layout → List ℕ → ℕ → ℕ → ℕ → ℕ → ℕ → ℕ → List (Bool × Fault)
-spotTests l s flags guest vcpu need inputLength outputLength =
+abbrev pub runTargetTests : Layout → List ℕ → ℕ → ℕ → ℕ → ℕ → ℕ → ℕ → List (Bool × Fault)
+runTargetTests l s flags guest vcpu need inputLength outputLength =
     targetTests l s runBits flags false guest vcpu ++ lentTests s (baseOf l s false guest vcpu) need inputLength outputLength
 
 -- "The input is the first bytes of the lent one, as many as registered."
@@ -72,13 +72,13 @@ contentTests l s input effect exit = badElement (contextOf l s RunInput) input �
 -- all of them
 abbrev pub runTests : Layout → List ℕ → ℕ → ℕ → ℕ → List ℕ → ℕ → List ℕ → ℕ → List (Bool × Fault)
 runTests l s flags guest vcpu input outputLength effect exit =
-    spotTests l s flags guest vcpu 0 (length input) outputLength
+    runTargetTests l s flags guest vcpu 0 (length input) outputLength
     ++ contentTests l s (inputOf s (baseOf l s false guest vcpu) input) effect exit
 
 -- "The L1 cache": all but the input's elements, which the cache writes, `need` bytes, once the rest is judged
 abbrev pub cachedTests : Layout → List ℕ → ℕ → ℕ → ℕ → ℕ → ℕ → ℕ → List ℕ → ℕ → List (Bool × Fault)
 cachedTests l s flags guest vcpu need inputLength outputLength effect exit =
-    spotTests l s flags guest vcpu need inputLength outputLength ++ exitTests l s effect exit
+    runTargetTests l s flags guest vcpu need inputLength outputLength ++ exitTests l s effect exit
 
 unfoldable pub cachedGood : Layout → List ℕ → ℕ → ℕ → ℕ → ℕ → ℕ → ℕ → List ℕ → ℕ → Admission
 cachedGood l s flags guest vcpu need inputLength outputLength effect exit =

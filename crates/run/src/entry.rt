@@ -1,5 +1,5 @@
 // Run vCPU: the input and the effect applied, and the output written, once every test of `run` is passed.
-use super::Spot;
+use super::RunTarget;
 use super::judge_run;
 use answer::Answer;
 use answer::refusal;
@@ -50,7 +50,7 @@ pub fn run_vcpu(
     ensures { λ r. ⌜ _≡_ {A = Outcome} (record { answer = r; store = now (store .exit); buffer = now (output .exit) }) (runVcpu small (now (store .entry)) flags guest vcpu (now (input .entry)) (now (output .entry)) (now (effect .entry)) «exit_reason») ⌝ }
 {
     let l = small_layout();
-    let spot = judge_run(
+    let target = judge_run(
         store,
         l,
         flags,
@@ -61,9 +61,9 @@ pub fn run_vcpu(
         effect,
         exit_reason,
     );
-    match spot {
-        Spot::Off(fault) => refusal(fault),
-        Spot::Slot(base, size) => run_at(
+    match target {
+        RunTarget::Refused(fault) => refusal(fault),
+        RunTarget::Slot(base, size) => run_at(
             store,
             base,
             first_bytes(input, size),

@@ -26,11 +26,11 @@ ghost use Prim.Native.Nat.{_+_, _≤_};
 ghost use lib.ListN.{length};
 ghost use Rattle.store.specs.Layout.{Sound, small, slotBytes};
 ghost use Rattle.run.specs.Run.{cachedGood};
-ghost use Rattle.run.specs.Private.{lentGood, exitGood, contentGood, spotOf, judgedRun};
+ghost use Rattle.run.specs.Private.{lentGood, exitGood, contentGood, runTargetOf, judgedRun};
 
 // What a run works on: where the vCPU's values start, and how many bytes of the lent input count; or a refusal.
-pub enum Spot {
-    Off(Fault),
+pub enum RunTarget {
+    Refused(Fault),
     Slot(usize, usize),
 }
 
@@ -71,7 +71,7 @@ fn judge_lent(
 }
 
 // The tests 1 to 12.
-fn spot_of(
+fn run_target_of(
     store: &[u8],
     l: Layout,
     flags: u64,
@@ -80,18 +80,21 @@ fn spot_of(
     need: usize,
     input_len: usize,
     output_len: usize,
-) -> Spot
+) -> RunTarget
     requires { ⌜ l ≡ small ⌝ }
-    ensures { λ r. ⌜ r ≡ spotOf l (now (store .entry)) flags guest vcpu need «input_len» «output_len» ⌝ }
+    ensures { λ r. ⌜ r ≡ runTargetOf l (now (store .entry)) flags guest vcpu need «input_len» «output_len» ⌝ }
 {
     let target = small_target(store, l, 0xE000_0000_0000_0000, flags, false, guest, vcpu);
     match target {
-        Target::Turned(fault) => Spot::Off(fault),
+        Target::Refused(fault) => RunTarget::Refused(fault),
         Target::At(base) => {
             let lent = judge_lent(store, base, need, input_len, output_len);
             match lent {
-                Admission::Refused(fault) => Spot::Off(fault),
-                Admission::Admitted => Spot::Slot(base, get64(store, base + INPUT_SIZE) as usize),
+                Admission::Refused(fault) => RunTarget::Refused(fault),
+                Admission::Admitted => RunTarget::Slot(
+                    base,
+                    get64(store, base + INPUT_SIZE) as usize,
+                ),
             }
         }
     }
@@ -148,18 +151,18 @@ pub fn judge_run(
     output_len: usize,
     effect: &[u8],
     exit: u64,
-) -> Spot
+) -> RunTarget
     requires { ⌜ l ≡ small ⌝ }
     ensures { λ r. ⌜ r ≡ judgedRun l (now (store .entry)) flags guest vcpu (now (input .entry)) «output_len» (now (effect .entry)) exit ⌝ }
 {
-    let spot = spot_of(store, l, flags, guest, vcpu, 0, input.len(), output_len);
-    match spot {
-        Spot::Off(fault) => Spot::Off(fault),
-        Spot::Slot(base, size) => {
+    let target = run_target_of(store, l, flags, guest, vcpu, 0, input.len(), output_len);
+    match target {
+        RunTarget::Refused(fault) => RunTarget::Refused(fault),
+        RunTarget::Slot(base, size) => {
             let content = judge_content(store, l, first_bytes(input, size), effect, exit);
             match content {
-                Admission::Refused(fault) => Spot::Off(fault),
-                Admission::Admitted => Spot::Slot(base, size),
+                Admission::Refused(fault) => RunTarget::Refused(fault),
+                Admission::Admitted => RunTarget::Slot(base, size),
             }
         }
     }
@@ -180,7 +183,7 @@ pub fn judge_cached(
     ensures { λ r. ⌜ r ≡ cachedGood small (now (store .entry)) flags guest vcpu need «input_len» «output_len» (now (effect .entry)) exit ⌝ }
 {
     let l = small_layout();
-    let spot = spot_of(
+    let target = run_target_of(
         store,
         l,
         flags,
@@ -190,8 +193,8 @@ pub fn judge_cached(
         input_len,
         output_len,
     );
-    match spot {
-        Spot::Off(fault) => Admission::Refused(fault),
-        Spot::Slot(_, _) => judge_exit(store, l, effect, exit),
+    match target {
+        RunTarget::Refused(fault) => Admission::Refused(fault),
+        RunTarget::Slot(_, _) => judge_exit(store, l, effect, exit),
     }
 }

@@ -28,7 +28,7 @@ use Rattle.transfer.proofs.Accepted.{ready-all}
 use Rattle.admission.specs.declared.Admission.{Admission}
 use Rattle.admission.specs.declared.Admission.the-variants.{Admitted, Refused}
 use Rattle.admission.specs.declared.Target.{Target}
-use Rattle.admission.specs.declared.Target.the-variants.{Turned, At}
+use Rattle.admission.specs.declared.Target.the-variants.{Refused as TargetRefused, At}
 use Rattle.admission.specs.Refusals.{Outcome, success, refusal, accept, refuse, decide, judgement, bit0, hasBit0}
 use Rattle.admission.specs.Target.{targetTests, baseOf, targetOf}
 use Rattle.state.specs.State.{contextOf, isStopped, faultOf, bufferTests, setUse, setState, getUse, fillWith, getState}
@@ -148,7 +148,7 @@ module _ (l : Layout) (e : l ≡ small) (s : List ℕ) (flags : ℕ) (wide : Boo
       ap (λ (t : Bool). decide s b (targetTests l s bit0 flags t guest vcpu ++ bufferTests l s (getUse t) b) (fillWith s (baseOf l s t guest vcpu) b)) w
       ∙ ap (λ (m : Layout). getState m s flags guest vcpu b) e
 
-  pub set-turned : (f : Fault) → a ≡ Turned f → r ≡ refusal f → _≡_ {A = Outcome} (record { answer = r; store = s; buffer = [] }) (setState small s flags guest vcpu b)
+  pub set-turned : (f : Fault) → a ≡ TargetRefused f → r ≡ refusal f → _≡_ {A = Outcome} (record { answer = r; store = s; buffer = [] }) (setState small s flags guest vcpu b)
   unfolding decide
   set-turned f h i =
       ap (λ (x : Answer). record { answer = x; store = s; buffer = [] }) i
@@ -163,7 +163,7 @@ module _ (l : Layout) (e : l ≡ small) (s : List ℕ) (flags : ℕ) (wide : Boo
       i ∙ ap₂ (λ (x : ℕ) (y : Usage). firstOf (refuse s []) (bufferTests l s y b) (accept 0 (applied x b (countOf b) s))) (sym (p .1)) v
       ∙ sym (begin-admitted (refuse s []) (accept 0 (applied (baseOf l s wide guest vcpu) b (countOf b) s)) tests (bufferTests l s (setUse wide) b) (p .0)) ∙ set-as
 
-  pub get-turned : (f : Fault) → a ≡ Turned f → r ≡ refusal f → _≡_ {A = Outcome} (record { answer = r; store = s; buffer = b }) (getState small s flags guest vcpu b)
+  pub get-turned : (f : Fault) → a ≡ TargetRefused f → r ≡ refusal f → _≡_ {A = Outcome} (record { answer = r; store = s; buffer = b }) (getState small s flags guest vcpu b)
   unfolding decide
   get-turned f h i =
       ap (λ (x : Answer). record { answer = x; store = s; buffer = b }) i

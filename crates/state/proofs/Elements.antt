@@ -35,7 +35,7 @@ use Rattle.transfer.specs.Transfer.{filled}
 use Rattle.transfer.proofs.Messages.{filled-value-one}
 use Rattle.admission.specs.declared.Admission.the-variants.{Admitted}
 use Rattle.admission.specs.declared.Target.{Target}
-use Rattle.admission.specs.declared.Target.the-variants.{Turned, At}
+use Rattle.admission.specs.declared.Target.the-variants.{Refused as TargetRefused, At}
 use Rattle.admission.specs.Refusals.{Outcome, success, refusal}
 use Rattle.admission.specs.Target.{targetOf, Held}
 use Rattle.state.specs.State.{contextOf, gotElement}
@@ -122,13 +122,13 @@ module _ (id : ℕ) (p : permits (record { usage = ThreadGet; capabilities = 0 }
         one-element k id v (fit .0) (fit .1) ∙ simp (a, b, c)
 
     module _ (l : Layout) (e : l ≡ small) (s : List ℕ) (guest vcpu : ℕ) (a : Target) (q : a ≡ targetOf l s (2 ^ 63) 0 false guest vcpu) (r : Answer) where
-      turned : (f : Fault) → a ≡ Turned f → r ≡ refusal f → _≡_ {A = Outcome} (record { answer = r; store = s; buffer = buffer }) (gotElement s guest vcpu id v)
+      turned : (f : Fault) → a ≡ TargetRefused f → r ≡ refusal f → _≡_ {A = Outcome} (record { answer = r; store = s; buffer = buffer }) (gotElement s guest vcpu id v)
       turned f h i = get-turned l e s 0 false refl guest vcpu buffer a q r f h i
 
-      pub one-turned : (f : Fault) → a ≡ Turned f → r ≡ refusal f → r ≡ gotElement s guest vcpu id v .answer
+      pub one-turned : (f : Fault) → a ≡ TargetRefused f → r ≡ refusal f → r ≡ gotElement s guest vcpu id v .answer
       one-turned f h i = ap (λ (o : Outcome). o .answer) (turned f h i)
 
-      pub one-kept : (f : Fault) → a ≡ Turned f → r ≡ refusal f → v ≡ bytesAt (gotElement s guest vcpu id v .buffer) 8 (length v)
+      pub one-kept : (f : Fault) → a ≡ TargetRefused f → r ≡ refusal f → v ≡ bytesAt (gotElement s guest vcpu id v .buffer) 8 (length v)
       one-kept f h i = sym value-there ∙ ap (λ (o : Outcome). bytesAt (o .buffer) 8 (length v)) (turned f h i)
 
       module _ (base : ℕ) (h : a ≡ At base) (i : r ≡ success 0) where

@@ -87,7 +87,7 @@ pub fn set_state(store: &mut [u8], flags: u64, guest: u64, vcpu: u64, buffer: &[
     let wide = is_wide(flags);
     let target = small_target(store, l, BIT_0, flags, wide, guest as usize, vcpu as usize);
     match target {
-        Target::Turned(fault) => refusal(fault),
+        Target::Refused(fault) => refusal(fault),
         Target::At(base) => set_at(store, l, base, set_use(wide), buffer),
     }
 }
@@ -121,7 +121,7 @@ pub fn get_state(store: &[u8], flags: u64, guest: u64, vcpu: u64, buffer: &mut [
     let wide = is_wide(flags);
     let target = small_target(store, l, BIT_0, flags, wide, guest as usize, vcpu as usize);
     match target {
-        Target::Turned(fault) => refusal(fault),
+        Target::Refused(fault) => refusal(fault),
         Target::At(base) => get_at(store, l, base, get_use(wide), buffer),
     }
 }

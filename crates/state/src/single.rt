@@ -30,7 +30,7 @@ pub fn get_element(store: &[u8], guest: u64, vcpu: u64, id: u16, value: &mut [u8
     let l = small_layout();
     let target = target_of(store, l, BIT_0, 0, false, guest as usize, vcpu as usize);
     match target {
-        Target::Turned(fault) => refusal(fault),
+        Target::Refused(fault) => refusal(fault),
         Target::At(base) => {
             let x = thread_element(number_of(id));
             copy(store, base + x.position, value, 0, x.size);

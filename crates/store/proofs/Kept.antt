@@ -23,7 +23,7 @@ use Rattle.store.specs.Header.{header, outside, offered, capabilitiesOf,
 use Rattle.store.specs.Store.{wellFormed, putCapabilities, putLive, putWord, withGuest, withVcpu, dropWord, dropWords, withoutGuest, noWords, noGuests, withoutGuests}
 use Rattle.store.proofs.Search.{no-bool, both, every-all, every-at, first-none}
 use Rattle.store.proofs.Tests.{live-parts}
-use Rattle.store.proofs.FieldsLaws.{word-same, word-other, live-same, head-same, word-live, head-live, live-here, live-else}
+use Rattle.store.proofs.WordFields.{word-same, word-other, live-same, head-same, word-live, head-live, live-here, live-else}
 use Rattle.store.proofs.Frame.{header-full, header-caps, header-word, header-live, Formed, formed, well-formed, formed-values}
 
 -- ---- the words as facts

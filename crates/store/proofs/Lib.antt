@@ -3,7 +3,7 @@ pub mod Loops
 pub mod Readings
 pub mod Tests
 pub mod Writes
-pub mod FieldsLaws
+pub mod WordFields
 pub mod Small
 pub mod Frame
 pub mod Kept

@@ -1,6 +1,6 @@
 pub mod Moving
 pub mod Registers
-pub mod FillingLaws
+pub mod Filled
 pub mod Accepted
 pub mod Named
 pub mod Messages

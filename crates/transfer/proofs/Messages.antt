@@ -22,7 +22,7 @@ use Rattle.gsb.proofs.Walks.{offset-start}
 use Rattle.gsb.proofs.RoundTrip.{Begins, begins-self, idIn, valueIn, Wire, wire-one, listed-fits, message-count, message-id, message-value, zeros-count, one-length}
 use Rattle.transfer.specs.Transfer.{putAs, applied, fillAs, filled}
 use Rattle.transfer.proofs.Moving.{put-stored, as-listed, fill-entry, fill-stored, length-putAs, apply-start, apply-turn}
-use Rattle.transfer.proofs.FillingLaws.{fill-start, filled-more}
+use Rattle.transfer.proofs.Filled.{fill-start, filled-more}
 
 -- ---- the store s with the values of a list of elements, in order
 unfoldable pub placeAll : ℕ → List (ℕ × List ℕ) → List ℕ → List ℕ

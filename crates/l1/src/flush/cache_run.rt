@@ -17,7 +17,7 @@ ghost use Rattle.admission.specs.declared.Admission.the-variants.{Admitted};
 ghost use Rattle.run.specs.Run.{cachedGood};
 ghost use Rattle.store.specs.Layout.{small};
 ghost use Rattle.l1.specs.Marks.{goodCache};
-ghost use Rattle.l1.specs.Cache.{pending, Ran, runCache};
+ghost use Rattle.l1.specs.Cache.{pending, RunOutcome, runCache};
 
 // The changed elements are sent, the vCPU runs, and the cache keeps what the output holds: past all the tests.
 fn send(
@@ -33,7 +33,7 @@ fn send(
     exit_reason: u64,
 ) -> Answer
     requires { ⌜ (goodCache (record { values = now values; marks = now marks }) ≡ true) × (cachedGood small (now store) flags guest vcpu (length (message (pending (record { values = now values; marks = now marks })))) (length (now input)) (length (now output)) (now effect) «exit_reason» ≡ Admitted) ⌝ }
-    ensures { λ r. ⌜ _≡_ {A = Ran} (record { answer = r; store = now (store .exit); cache = record { values = now (values .exit); marks = now (marks .exit) }; input = now (input .exit); output = now (output .exit) }) (runCache small (now (store .entry)) (record { values = now (values .entry); marks = now (marks .entry) }) flags guest vcpu (now (input .entry)) (now (output .entry)) (now (effect .entry)) «exit_reason») ⌝ }
+    ensures { λ r. ⌜ _≡_ {A = RunOutcome} (record { answer = r; store = now (store .exit); cache = record { values = now (values .exit); marks = now (marks .exit) }; input = now (input .exit); output = now (output .exit) }) (runCache small (now (store .entry)) (record { values = now (values .entry); marks = now (marks .entry) }) flags guest vcpu (now (input .entry)) (now (output .entry)) (now (effect .entry)) «exit_reason») ⌝ }
 {
     put_input(values, marks, input);
     let answer = run_vcpu(
@@ -62,7 +62,7 @@ pub fn run(
     effect: &[u8],
     exit_reason: u64,
 ) -> Answer
-    ensures { λ r. ⌜ _≡_ {A = Ran} (record { answer = r; store = now (store .exit); cache = record { values = now (values .exit); marks = now (marks .exit) }; input = now (input .exit); output = now (output .exit) }) (runCache small (now (store .entry)) (record { values = now (values .entry); marks = now (marks .entry) }) flags guest vcpu (now (input .entry)) (now (output .entry)) (now (effect .entry)) «exit_reason») ⌝ }
+    ensures { λ r. ⌜ _≡_ {A = RunOutcome} (record { answer = r; store = now (store .exit); cache = record { values = now (values .exit); marks = now (marks .exit) }; input = now (input .exit); output = now (output .exit) }) (runCache small (now (store .entry)) (record { values = now (values .entry); marks = now (marks .entry) }) flags guest vcpu (now (input .entry)) (now (output .entry)) (now (effect .entry)) «exit_reason») ⌝ }
 {
     if !good_cache(values, marks) {
         return refusal(Fault::Cache);

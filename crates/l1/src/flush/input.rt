@@ -14,7 +14,7 @@ ghost use Rattle.gsb.specs.Message.{elementsBytes, message};
 ghost use Rattle.exits.specs.Exits.{rowBytes, valued};
 ghost use Rattle.l1.specs.Marks.{goodCache};
 ghost use Rattle.l1.specs.Cache.{chosen, pending};
-ghost use Rattle.l1.specs.MarksPrivate.{isChanged};
+ghost use Rattle.l1.specs.Private.{isChanged};
 
 // How many bytes that takes.
 pub fn bytes_needed(marks: &[u64]) -> usize

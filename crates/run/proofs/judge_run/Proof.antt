@@ -1,24 +1,24 @@
--- By the spot, then by the contents (`run-..`).
+-- By the target, then by the contents (`run-..`).
 use Rattle.store.proofs.Small.{small-sound}
-use Rattle.run.proofs.Runs.{spot-lends, spot-long, spot-part, run-off, run-content, run-slot}
+use Rattle.run.proofs.Runs.{run-found-lends, run-found-long, run-found-part, run-refused, run-content, run-slot}
 use borrow.Author.Needs.{needs}
 use Rattle.run.proofs.judge_run.Statement.{statement}
 use Rattle.run.proofs.judge_run.Tie as tie
 
-spot-of-requires : tie.Need-spot-of-requires
-spot-of-requires c κs = search needs
+run-target-of-requires : tie.Need-run-target-of-requires
+run-target-of-requires c κs = search needs
 
-enum-known-spot : tie.Need-enum-known-spot
-enum-known-spot c = search needs
+enum-known-target : tie.Need-enum-known-target
+enum-known-target c = search needs
 
-enum-known-spot-2 : tie.Need-enum-known-spot-2
-enum-known-spot-2 c = search needs
+enum-known-target-2 : tie.Need-enum-known-target-2
+enum-known-target-2 c = search needs
 
 first-bytes-requires : tie.Need-first-bytes-requires
-first-bytes-requires c κs = search (needs, spot-lends, small-sound)
+first-bytes-requires c κs = search (needs, run-found-lends, small-sound)
 
 judge-content-requires : tie.Need-judge-content-requires
-judge-content-requires c κs = (search (needs, small-sound), search (needs, spot-long, small-sound), search (needs, spot-part, small-sound))
+judge-content-requires c κs = (search (needs, small-sound), search (needs, run-found-long, small-sound), search (needs, run-found-part, small-sound))
 
 enum-known-content : tie.Need-enum-known-content
 enum-known-content c = search needs
@@ -27,7 +27,7 @@ enum-told : tie.Need-enum-told
 enum-told c = search needs
 
 returns : tie.Need-returns
-returns c = search (needs, run-off)
+returns c = search (needs, run-refused)
 
 returns-2 : tie.Need-returns-2
 returns-2 c = search (needs, run-content)
@@ -39,9 +39,9 @@ pub judge-run-spec : {M : Type 1} → statement M
 judge-run-spec =
     tie.close
     (tie.spec
-    spot-of-requires
-    enum-known-spot
-    enum-known-spot-2
+    run-target-of-requires
+    enum-known-target
+    enum-known-target-2
     first-bytes-requires
     judge-content-requires
     enum-known-content

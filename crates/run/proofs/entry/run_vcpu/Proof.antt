@@ -11,14 +11,14 @@ small-layout-requires c κs = search needs
 judge-run-requires : tie.Need-judge-run-requires
 judge-run-requires c κs = search needs
 
-enum-known-spot : tie.Need-enum-known-spot
-enum-known-spot c = search needs
+enum-known-target : tie.Need-enum-known-target
+enum-known-target c = search needs
 
 refusal-requires : tie.Need-refusal-requires
 refusal-requires c κs = search needs
 
-enum-known-spot-2 : tie.Need-enum-known-spot-2
-enum-known-spot-2 c = search needs
+enum-known-target-2 : tie.Need-enum-known-target-2
+enum-known-target-2 c = search needs
 
 first-bytes-requires : tie.Need-first-bytes-requires
 first-bytes-requires c κs = search (needs, call-lends, small-sound)
@@ -47,9 +47,9 @@ run-vcpu-spec =
     (tie.spec
     small-layout-requires
     judge-run-requires
-    enum-known-spot
+    enum-known-target
     refusal-requires
-    enum-known-spot-2
+    enum-known-target-2
     first-bytes-requires
     run-at-requires
     same-length

@@ -2,7 +2,7 @@
 use Rattle.gsb.specs.Walk.{offsetAt}
 use Rattle.gsb.proofs.Walks.{offset-start}
 use Rattle.transfer.specs.Transfer.{filled}
-use Rattle.transfer.proofs.FillingLaws.{fill-ready, fill-next, fill-turn, fill-start, fill-end}
+use Rattle.transfer.proofs.Filled.{fill-ready, fill-next, fill-turn, fill-start, fill-end}
 use Prim.Native.Nat.{_-_, _≤_}
 use lib.ListN.{length}
 use mathlib.Core.Path.{_≡_, refl}

@@ -4,7 +4,7 @@ use Rattle.exits.specs.Exits.{weigh}
 use Rattle.store.specs.Search.{first}
 use Rattle.l1.specs.Marks.{isMarked}
 use Rattle.l1.specs.Cache.{chosen}
-use Rattle.l1.specs.MarksPrivate.{isChanged}
+use Rattle.l1.specs.Private.{isChanged}
 use Prim.Native.Nat.{_+_, _-_, _≤_}
 use mathlib.Core.Path.{_≡_}
 use borrow.Author.Needs.{needs}

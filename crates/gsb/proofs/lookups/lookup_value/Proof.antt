@@ -1,8 +1,8 @@
 -- The part is the one that `lookup` tells.
-use Rattle.gsb.proofs.Lookups.{value-part}
+use Rattle.gsb.proofs.LookupLaws.{value-part}
 use borrow.Author.Needs.{needs}
-use Rattle.gsb.proofs.finding.lookup_value.Statement.{statement}
-use Rattle.gsb.proofs.finding.lookup_value.Tie as tie
+use Rattle.gsb.proofs.lookups.lookup_value.Statement.{statement}
+use Rattle.gsb.proofs.lookups.lookup_value.Tie as tie
 
 lookup-requires : tie.Need-lookup-requires
 lookup-requires c κs = search needs

@@ -18,9 +18,9 @@ use Rattle.rules.specs.Rules.{between}
 use Rattle.gsb.specs.declared.Verdict.{Verdict}
 use Rattle.gsb.specs.declared.Verdict.the-variants.{Good, Faulty}
 use Rattle.gsb.specs.declared.Walked.{Walked}
-use Rattle.gsb.specs.declared.finding.Last.{Last}
-use Rattle.gsb.specs.declared.finding.Last.the-variants.{Nowhere, At}
-use Rattle.gsb.specs.declared.finding.Found.{Found}
+use Rattle.gsb.specs.declared.lookups.Last.{Last}
+use Rattle.gsb.specs.declared.lookups.Last.the-variants.{Nowhere, At}
+use Rattle.gsb.specs.declared.lookups.Found.{Found}
 use Rattle.gsb.specs.Walk.{countOf, idAt, sizeAt, nextAt, offsetAt, badLength, walk}
 use Rattle.gsb.specs.Lookup.{framed, lastWith, Inside, notFound, partOf, unlessCut, lookedUp, valueOf}
 use Rattle.gsb.proofs.Judged.{passed}

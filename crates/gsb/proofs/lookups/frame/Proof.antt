@@ -1,8 +1,8 @@
 -- Each return is a law of `framed`, or what `frame_any` gives.
 use borrow.Author.Needs.{needs}
-use Rattle.gsb.proofs.Lookups.{framed-eight, framed-sixteen}
-use Rattle.gsb.proofs.finding.frame.Statement.{statement}
-use Rattle.gsb.proofs.finding.frame.Tie as tie
+use Rattle.gsb.proofs.LookupLaws.{framed-eight, framed-sixteen}
+use Rattle.gsb.proofs.lookups.frame.Statement.{statement}
+use Rattle.gsb.proofs.lookups.frame.Tie as tie
 
 sub-if1 : tie.Need-sub-if1
 sub-if1 c = search needs

@@ -1,11 +1,11 @@
 -- By whether there is a match; a match lies inside the buffer.
 use native.Mathlib.Omega.{arith}
 use mathlib.Core.Path.{ap}
-use Rattle.gsb.specs.declared.finding.Found.{Found}
-use Rattle.gsb.proofs.Lookups.{part-nowhere, part-at, inside-at}
+use Rattle.gsb.specs.declared.lookups.Found.{Found}
+use Rattle.gsb.proofs.LookupLaws.{part-nowhere, part-at, inside-at}
 use borrow.Author.Needs.{needs}
-use Rattle.gsb.proofs.finding.part_of.Statement.{statement}
-use Rattle.gsb.proofs.finding.part_of.Tie as tie
+use Rattle.gsb.proofs.lookups.part_of.Statement.{statement}
+use Rattle.gsb.proofs.lookups.part_of.Tie as tie
 
 enum-told : tie.Need-enum-told
 enum-told c = search needs

@@ -2,8 +2,8 @@
 use mathlib.Core.Path.{sym, _∙_}
 use borrow.Author.Tests.{eq-eqb, ne-eqb}
 use borrow.Author.Needs.{needs}
-use Rattle.gsb.proofs.finding.later.Statement.{statement}
-use Rattle.gsb.proofs.finding.later.Tie as tie
+use Rattle.gsb.proofs.lookups.later.Statement.{statement}
+use Rattle.gsb.proofs.lookups.later.Tie as tie
 
 get16-requires : tie.Need-get16-requires
 get16-requires c κs = search needs

@@ -1,9 +1,9 @@
--- By the target, then by the lent buffers (`spot-..`).
+-- By the target, then by the lent buffers (`run-target-..`).
 use Rattle.admission.proofs.Targets.{held-vcpu, held-fits, held-inside}
-use Rattle.run.proofs.Runs.{spot-turned, spot-lent, spot-found}
+use Rattle.run.proofs.Runs.{run-target-refused, run-target-lent, run-target-found}
 use borrow.Author.Needs.{needs}
-use Rattle.run.proofs.spot_of.Statement.{statement}
-use Rattle.run.proofs.spot_of.Tie as tie
+use Rattle.run.proofs.run_target_of.Statement.{statement}
+use Rattle.run.proofs.run_target_of.Tie as tie
 
 small-target-requires : tie.Need-small-target-requires
 small-target-requires c κs = search needs
@@ -30,16 +30,16 @@ get64-requires : tie.Need-get64-requires
 get64-requires c κs = search (needs, held-inside)
 
 returns : tie.Need-returns
-returns c = search (needs, spot-turned)
+returns c = search (needs, run-target-refused)
 
 returns-2 : tie.Need-returns-2
-returns-2 c = search (needs, spot-lent)
+returns-2 c = search (needs, run-target-lent)
 
 returns-3 : tie.Need-returns-3
-returns-3 c = search (needs, spot-found)
+returns-3 c = search (needs, run-target-found)
 
-pub spot-of-spec : {M : Type 1} → statement M
-spot-of-spec =
+pub run-target-of-spec : {M : Type 1} → statement M
+run-target-of-spec =
     tie.close
     (tie.spec
     small-target-requires

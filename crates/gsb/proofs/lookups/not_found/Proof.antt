@@ -2,8 +2,8 @@
 use mathlib.Core.Path.{ap}
 use Rattle.answer.specs.declared.Answer.{Answer}
 use borrow.Author.Needs.{needs}
-use Rattle.gsb.proofs.finding.not_found.Statement.{statement}
-use Rattle.gsb.proofs.finding.not_found.Tie as tie
+use Rattle.gsb.proofs.lookups.not_found.Statement.{statement}
+use Rattle.gsb.proofs.lookups.not_found.Tie as tie
 
 refusal-requires : tie.Need-refusal-requires
 refusal-requires c κs = search needs

@@ -4,13 +4,13 @@ use borrow.Author.Needs.{needs}
 use mathlib.Core.Path.{_≡_, ap, _∙_}
 use Prim.Native.Nat.{ℕ, _-_, _≤_}
 use lib.ListN.{length}
-use Rattle.gsb.specs.declared.finding.Found.{Found}
+use Rattle.gsb.specs.declared.lookups.Found.{Found}
 use Rattle.gsb.specs.Walk.{offsetAt, walk}
 use Rattle.gsb.specs.Lookup.{framed, lastWith, Inside}
 use Rattle.gsb.proofs.Walks.{long-enough, turn-good, offset-start, offset-next}
-use Rattle.gsb.proofs.Lookups.{framed-inside, last-more, last-inside, last-none, looked-length, looked-cut, looked-part}
-use Rattle.gsb.proofs.finding.lookup.Statement.{statement}
-use Rattle.gsb.proofs.finding.lookup.Tie as tie
+use Rattle.gsb.proofs.LookupLaws.{framed-inside, last-more, last-inside, last-none, looked-length, looked-cut, looked-part}
+use Rattle.gsb.proofs.lookups.lookup.Statement.{statement}
+use Rattle.gsb.proofs.lookups.lookup.Tie as tie
 
 abbrev Inv-loop : tie.InvT-loop
 Inv-loop b id count at₀ i₀ last₀ at i last = (i ≤ count) × (at ≤ length b) × (at ≡ offsetAt b i) × (last ≡ lastWith b id i) × Inside b last × (walk (framed b) count 0 4 ≡ walk (framed b) (count - i) i at)
