@@ -14,7 +14,7 @@ vendors = $(patsubst bench/mistakes/%.edit,$(bench)/vendor-%.so,$(wildcard bench
 headers = include/adderknot.h $(wildcard bench/*.h)
 night = $(addprefix bench/,night.c gsb.c lent.c chance.c tell.c)
 
-.PHONY: all bench run score speed counts listing test install uninstall clean tools help
+.PHONY: all bench run score speed counts figures listing test install uninstall clean tools help
 .PHONY: compiler
 .DELETE_ON_ERROR:
 .PRECIOUS: $(bench)/vendor-%.c
@@ -34,6 +34,9 @@ speed: $(bench)/speed ## time the library against the model
 
 counts: tools $(bench)/count ## count the instructions of library and model, or of each function in a case: make counts ARGS=7
 	bench/counts.sh $(ARGS)
+
+figures: tools $(bench)/speed $(bench)/count ## write docs/FIGURES.md; LOG=FILE: what the gate printed, for the times of checks
+	bench/figures.sh $(LOG) > $(bench)/FIGURES.md && mv $(bench)/FIGURES.md docs/FIGURES.md
 
 listing: ## build the listing program and run it on the example of README.md
 	rt check listing

@@ -1,5 +1,5 @@
--- THEOREM `cache-agrees`, demand 3 whole: for every list of cache writes, reads and runs of a live vCPU, with any calls on other guests
--- between, the L1 with a cache and the plain L1 agree. Assumes nothing.
+-- THEOREM `cache-agrees`, which is demand 3 whole: for every list of operations, the L1 with a cache and the plain L1 agree; `agrees` is the
+-- same of any layout. Assumes nothing.
 use mathlib.Core.Path.{refl, sym, ap, _∙_, subst}
 use mathlib.Core.List.{List, [], _∷_}
 use Prim.Native.Nat.{ℕ, _≤_, _<_}

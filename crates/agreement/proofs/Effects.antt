@@ -15,13 +15,13 @@ use Rattle.rules.specs.declared.Context.{Context}
 use Rattle.elements.specs.declared.Entry.{Entry}
 use Rattle.elements.specs.declared.Kind.the-variants.{Listed}
 use Rattle.elements.specs.Table.{table, below, sameScope, position, sourceOf, find, kindOf}
-use Rattle.rules.specs.Rules.{between, permits, allows}
+use Rattle.rules.specs.Rules.{between, permits, allows, scopeFor}
 use Rattle.elements.proofs.Table.{entry-rule, T-true, position-mono, source-stored}
-use Rattle.rules.proofs.Rules.{permits-listed, permits-scope, scopeFor, effect-not-buffer}
+use Rattle.rules.proofs.Rules.{permits-listed, permits-scope, effect-not-buffer}
 use Rattle.gsb.specs.declared.Walked.the-variants.{Done}
 use Rattle.gsb.specs.Walk.{countOf, idAt, offsetAt, firstBad}
 use Rattle.gsb.proofs.Judged.{good-element}
-use Rattle.gsb.proofs.First.{accepted-exactly}
+use Rattle.gsb.proofs.First.{all-good}
 use Rattle.transfer.specs.Transfer.{applied}
 use Rattle.transfer.specs.Named.{Named}
 use Rattle.transfer.proofs.Named.{applied-frame}
@@ -55,7 +55,7 @@ module _ (k : Context) (u : k .usage ≡ InEffect) (base : ℕ) (e s : List ℕ)
   spared : (i : ℕ) → i < base + 40 → Named base e (countOf e) i → ⊥
   spared i h n =
       let a = n .index in
-      let g = good-element k e (offsetAt e a) (offsetAt e (a + 1)) (accepted-exactly k e .0 d a (n .counted)) .0 in
+      let g = good-element k e (offsetAt e a) (offsetAt e (a + 1)) (all-good k e .0 d a (n .counted)) .0 in
       let id = idAt e (offsetAt e a) in
       let p : permits k id (Listed (n .entry)) ≡ true = ap (permits k id) (sym (n .listed)) ∙ g .permitted in
       let al : allows InEffect id (n .entry) ≡ true = ap (λ (x : _). allows x id (n .entry)) (sym u) ∙ permits-listed k id (n .entry) p in

@@ -2,8 +2,7 @@
 -- `all-changed`. Assumes nothing.
 use mathlib.Core.Path.{_≡_, refl}
 use mathlib.Core.Bool.{Bool, true, false, not, cond}
-use mathlib.Core.List.{List, [], _∷_, _++_}
-use Prim.Native.Nat.{ℕ, _-_, _^_, _≤_, _<_}
+use Prim.Native.Nat.{ℕ, _<_}
 use native.Mathlib.Omega.{arith}
 use lib.Dec.{lit<, lit≤}
 use lib.ListN.{length}
@@ -19,42 +18,30 @@ use Rattle.store.specs.Header.{header, capabilitiesOf, live, word, wordOf, isUs
 use Rattle.store.specs.Store.{wellFormed, fresh}
 use Rattle.store.proofs.Search.{every-at, no-bool}
 use Rattle.admission.specs.Target.{baseOf}
-use Rattle.l1.specs.Marks.{Cache, isMarked, changed, isInput, markGood, goodCache}
+use Rattle.l1.specs.Marks.{isMarked, changed, isInput, markGood, goodCache}
 use Rattle.l1.specs.Cache.{pending}
 use Rattle.agreement.specs.Agree.{Start}
+use Rattle.agreement.specs.Example.{exampleStore, exampleCache, inputMarks, fullCache}
 use Rattle.agreement.proofs.Flush.{all-changed}
 
--- live bits, the zero byte and the first slot word; the two registrations at the start of slot 0
-pub store : List ℕ
-store = put (put (fresh small) 8 (0x80 ∷ 0 ∷ 0x88 ∷ 0x00 ∷ [])) 458 (digits 8 0 ++ (digits 8 2424 ++ (digits 8 0 ++ digits 8 124)))
-
-pub cache : Cache
-cache = record { values = zeros 1820; marks = zeros 6 }
-
-pub met : Start small 1 0 store cache
-unfolding store cache bytesAt put be digits zeros bit bits table below position every first header capabilitiesOf live word wordOf isUsed guestOf holds lacks alone slotGood headGood wordsGood slotHolding slotOf wellFormed fresh baseOf
+pub met : Start small 1 0 exampleStore exampleCache
+unfolding exampleStore exampleCache bytesAt put be digits zeros bit bits table below position every first header capabilitiesOf live word wordOf isUsed guestOf holds lacks alone slotGood headGood wordsGood slotHolding slotOf wellFormed fresh baseOf
 met = record { formed = refl; live = lit< tt; input = refl; wide = lit≤ tt; output = refl; values = refl; empty = refl }
 
 -- ---- a well-formed cache with all 164 changed
-three : List ℕ
-three = (2 ^ 62 - 1) ∷ (2 ^ 64 - 1) ∷ (2 ^ 64 - 2 ^ 26) ∷ []
-
-pub full : Cache
-full = record { values = zeros 1820; marks = three ++ three }
-
-pub full-good : goodCache full ≡ true
-unfolding full three zeros goodCache every markGood isMarked isInput permits allows kindOf find table sourceOf position below threadElement numbered
+pub full-good : goodCache fullCache ≡ true
+unfolding fullCache inputMarks zeros goodCache every markGood isMarked isInput permits allows kindOf find table sourceOf position below threadElement numbered
 full-good = refl
 
 abbrev agrees : ℕ → Bool
-agrees e = cond (changed full e) (isInput (threadElement e .id)) (not (isInput (threadElement e .id)))
+agrees e = cond (changed fullCache e) (isInput (threadElement e .id)) (not (isInput (threadElement e .id)))
 
 all-agree : every agrees 170 0 ≡ true
-unfolding full three zeros every isMarked isInput permits allows kindOf find table sourceOf position below threadElement numbered
+unfolding fullCache inputMarks zeros every isMarked isInput permits allows kindOf find table sourceOf position below threadElement numbered
 all-agree = refl
 
-pub full-changed : (e : ℕ) → e < 170 → changed full e ≡ isInput (threadElement e .id)
-full-changed e h = same (changed full e) (isInput (threadElement e .id)) (every-at agrees 170 0 all-agree e (omega arith) (omega arith))
+pub full-changed : (e : ℕ) → e < 170 → changed fullCache e ≡ isInput (threadElement e .id)
+full-changed e h = same (changed fullCache e) (isInput (threadElement e .id)) (every-at agrees 170 0 all-agree e (omega arith) (omega arith))
   where
     same : (a b : Bool) → cond a b (not b) ≡ true → a ≡ b
     same true true q = refl
@@ -62,9 +49,9 @@ full-changed e h = same (changed full e) (isInput (threadElement e .id)) (every-
     same false true q = absurd (no-bool q)
     same false false q = refl
 
-full-long : length (full .values) ≡ 1820
-unfolding full
+full-long : length (fullCache .values) ≡ 1820
+unfolding fullCache
 full-long = length-zeros 1820
 
-pub full-need : (length (pending full) ≡ 164) × (length (message (pending full)) ≡ 2424)
-full-need = all-changed full full-long full-changed
+pub full-need : (length (pending fullCache) ≡ 164) × (length (message (pending fullCache)) ≡ 2424)
+full-need = all-changed fullCache full-long full-changed

@@ -14,17 +14,17 @@ use Rattle.elements.specs.Table.{table, find, kindOf, sourceOf, position, below
 use Rattle.rules.specs.Rules.{allows, permits}
 use Rattle.gsb.specs.declared.Walked.the-variants.{Done}
 use Rattle.gsb.specs.Walk.{countOf, firstBad}
-use Rattle.gsb.specs.Message.{elementsBytes, message}
+use Rattle.gsb.specs.Message.{elementsBytes, message, Begins, Wire}
 use Rattle.gsb.proofs.Messages.{length-message}
-use Rattle.gsb.proofs.RoundTrip.{Begins, begins-is, begins-first, Wire, message-count, message-id, message-value}
+use Rattle.gsb.proofs.RoundTrip.{begins-is, begins-first, message-count, message-id, message-value}
 use Rattle.transfer.specs.Transfer.{applied}
 use Rattle.transfer.proofs.Messages.{placeAll, place-nil, place-cons, applied-message, thread-numbered}
 use Rattle.exits.specs.Exits.{weigh, valued}
 use Rattle.exits.proofs.Written.{length-valued}
 use Rattle.l1.specs.Marks.{Cache, changed, isInput}
-use Rattle.l1.specs.Cache.{chosen, pending}
+use Rattle.l1.specs.Cache.{chosen, inputs, pending, Fit}
 use Rattle.agreement.specs.Agree.{newest, inOrder, elementsIn, Holds}
-use Rattle.l1.proofs.Sent.{fit-append, fit-wire, fit-good, Fit}
+use Rattle.l1.proofs.Sent.{fit-append, fit-wire, fit-good}
 use Rattle.l1.proofs.Cells.{input-named, all-weight}
 use Rattle.l1.proofs.Pending.{weighed}
 use Rattle.agreement.proofs.Writes.{Latest, none, some, latest, placed, place, back, back-newest, due-length}
@@ -90,14 +90,11 @@ due-held lent b n ws f e h k =
     }
 
 -- ---- 01: "All 164 changed need 2,424 bytes."
--- what is due needs no more
+-- what is due of writes that fit needs no more
 pub due-need : (ws : List (ℕ × List ℕ)) → Fit ws → length (message (inOrder ws 170)) ≤ 2424
 due-need ws f = omega (arith, length-message (inOrder ws 170), due-length ws f 170 (omega arith), all-weight)
 
 -- the thread elements that a run input takes are 164
-abbrev inputs : List ℕ
-inputs = chosen (λ e. isInput (threadElement e .id)) 170
-
 pub inputs-count : length inputs ≡ 164
 unfolding chosen isInput permits allows kindOf find table sourceOf position below threadElement numbered
 inputs-count = refl

@@ -14,7 +14,7 @@ use Rattle.answer.specs.declared.Call.{Call as Name}
 use Rattle.answer.specs.declared.Fault.the-variants.{Length, Element, Cache as CacheBad}
 use Rattle.elements.specs.Table.{numberOf, threadElement}
 use Rattle.rules.specs.Rules.{goodInput, goodOutput}
-use Rattle.gsb.proofs.RoundTrip.{firstPlace}
+use Rattle.gsb.specs.Message.{firstPlace}
 use Rattle.store.specs.declared.Layout.{Layout}
 use Rattle.store.specs.Layout.{Sound}
 use Rattle.store.proofs.Search.{no-bool}
@@ -22,11 +22,10 @@ use Rattle.exits.specs.Exits.{elementOf}
 use Rattle.admission.specs.Refusals.{Outcome, success, refusal, accept, refuse}
 use Rattle.run.specs.Run.{inputSize, outputSize}
 use Rattle.l1.specs.Marks.{Cache, valid, changed, isInput, isSpecial, goodCache}
-use Rattle.l1.specs.Cache.{placeZero, WriteOutcome, change, writeCache, keep}
+use Rattle.l1.specs.Cache.{placeZero, WriteOutcome, change, writeCache, keep, Fit}
 use Rattle.agreement.specs.Plain.{writePlain}
 use Rattle.agreement.specs.Agree.{Op, Write, seen, Turn, Cached, cachedTurn, plainTurn, since, newest, Same, registeredInput}
 use Rattle.l1.proofs.Cells.{Named, number-named, named-number, number-back, named-back, input-named, input-common, valueOf, value-same, value-other, length-value}
-use Rattle.l1.proofs.Sent.{Fit}
 use Rattle.agreement.proofs.Writes.{placed, back, back-cons, newest-same, newest-other, Latest, none, some, latest, read-none}
 use Rattle.agreement.proofs.Ours.{base, Ours, ours-room, back-ours}
 use Rattle.agreement.proofs.Single.{write-long, write-special, write-id, write-size, write-good}

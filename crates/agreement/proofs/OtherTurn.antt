@@ -19,7 +19,7 @@ use Rattle.promises.proofs.Kept.{well-formed-kept}
 use Rattle.promises.proofs.Apart.{apart-slot, apart-values, apart-write}
 use Rattle.agreement.specs.Agree.{Other, Cached, cachedTurn, plainTurn, since}
 use Rattle.l1.proofs.Cells.{input-named, named-end, number-named}
-use Rattle.l1.proofs.Sent.{Fit}
+use Rattle.l1.specs.Cache.{Fit}
 use Rattle.agreement.proofs.Writes.{placed, back}
 use Rattle.agreement.proofs.Ours.{Ours, back-ours, values-value, values-input, values-output}
 use Rattle.agreement.proofs.Invariant.{at, Inv, Goes, plain-ours}

@@ -7,8 +7,8 @@ use native.Mathlib.Omega.{arith}
 use lib.Dec.{ltb}
 use lib.ListN.{length}
 use borrow.Author.Tests.{lt-leb}
-use Rattle.octets.specs.Bytes.{bytesAt, be}
-use Rattle.octets.proofs.Bytes.{right, part-of-part}
+use Rattle.octets.specs.Bytes.{bytesAt, be, right}
+use Rattle.octets.proofs.Bytes.{part-of-part}
 use Rattle.octets.proofs.Numbers.{be-other, be-part}
 use Rattle.elements.specs.Table.{table, below, position}
 use Rattle.store.specs.declared.Layout.{Layout}
@@ -22,7 +22,7 @@ use Rattle.admission.specs.Target.{targetTests, baseOf}
 use Rattle.run.specs.Run.{inputSize, outputSize}
 use Rattle.l1.specs.Marks.{isInput}
 use Rattle.l1.proofs.Cells.{Named, named-end, input-behind, valueOf}
-use Rattle.l1.proofs.Sent.{Fit}
+use Rattle.l1.specs.Cache.{Fit}
 use Rattle.agreement.proofs.Writes.{placed, back, back-keeps}
 
 module _ (l : Layout) (so : Sound l) (g v j : ℕ) (below-slots : j < l .slots) where

@@ -14,7 +14,8 @@ use Rattle.answer.specs.declared.Fault.the-variants.{Length, Element, Cache as 
 use Rattle.answer.specs.Answer.{three}
 use Rattle.elements.specs.Table.{numberOf}
 use Rattle.gsb.specs.Walk.{countOf}
-use Rattle.gsb.proofs.RoundTrip.{firstPlace, one-value}
+use Rattle.gsb.specs.Message.{firstPlace}
+use Rattle.gsb.proofs.RoundTrip.{one-value}
 use Rattle.store.specs.declared.Layout.{Layout}
 use Rattle.store.specs.Layout.{Sound}
 use Rattle.transfer.specs.Transfer.{filled}

@@ -11,8 +11,8 @@ use Rattle.octets.proofs.Bytes.{length-zeros}
 use Rattle.elements.specs.Table.{position, numberOf, threadElement}
 use Rattle.rules.specs.Rules.{goodInput, goodOutput}
 use Rattle.gsb.specs.Walk.{countOf}
-use Rattle.gsb.specs.Message.{message}
-use Rattle.gsb.proofs.RoundTrip.{Begins, message-count, message-id}
+use Rattle.gsb.specs.Message.{message, Begins}
+use Rattle.gsb.proofs.RoundTrip.{message-count, message-id}
 use Rattle.store.specs.declared.Layout.{Layout}
 use Rattle.store.specs.Layout.{Sound}
 use Rattle.transfer.proofs.Messages.{placeAll, place-nil, place-cons, applied-message, thread-numbered}

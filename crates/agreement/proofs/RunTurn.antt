@@ -21,8 +21,8 @@ use Rattle.rules.specs.Rules.{goodInput, goodOutput}
 use Rattle.gsb.specs.declared.Walked.{Walked}
 use Rattle.gsb.specs.declared.Walked.the-variants.{Done, Stopped}
 use Rattle.gsb.specs.Walk.{countOf, badLength, firstBad}
-use Rattle.gsb.specs.Message.{message}
-use Rattle.gsb.proofs.RoundTrip.{Begins, begins-put, begins-first, zeros-first, zeros-good}
+use Rattle.gsb.specs.Message.{message, Begins}
+use Rattle.gsb.proofs.RoundTrip.{begins-put, begins-first, zeros-first, zeros-good}
 use Rattle.store.specs.declared.Layout.{Layout}
 use Rattle.store.specs.Layout.{Sound}
 use Rattle.store.specs.Header.{header, capabilitiesOf, live, slotOf}
@@ -308,8 +308,8 @@ module _ (l : Layout) (so : Sound l) (g v j : ℕ) (below-slots : j < l .slots) 
     refused-turn : (f : Fault) → (f ≡ None → ⊥) → Goes l so g v j below-slots b op ws (cachedOf (refusedRun f)) (plainOf (refuse p output f))
     unfolding since
     refused-turn f n = record {
-      same = record { shown = ap (λ (r : Registers). record { answer = r; buffer = output }) (run-told f 0); stores = λ z. absurd (n (none-told Name.RunVcpu f 0 (eqb-true _ _ z))); input = λ z. absurd (n (none-told Name.RunVcpu f 0 (eqb-true _ _ z))) };
-      next = subst (λ (t : Bool). Inv l so g v j below-slots b p (cond t [] ws)) (sym (not-zero (told Name.RunVcpu f 0 .r3) (λ z. n (none-told Name.RunVcpu f 0 z)))) i;
+      same = record { shown = ap (λ (r : Registers). record { answer = r; buffer = output }) (run-told f 0); stores = λ z. absurd (n (none-told Name.RunVcpu f 0 .0 (eqb-true _ _ z))); input = λ z. absurd (n (none-told Name.RunVcpu f 0 .0 (eqb-true _ _ z))) };
+      next = subst (λ (t : Bool). Inv l so g v j below-slots b p (cond t [] ws)) (sym (not-zero (told Name.RunVcpu f 0 .r3) (λ z. n (none-told Name.RunVcpu f 0 .0 z)))) i;
     }
       where
         not-zero : (x : ℕ) → (x ≡ 0 → ⊥) → eqb x 0 ≡ false

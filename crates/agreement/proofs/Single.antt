@@ -20,7 +20,8 @@ use Rattle.rules.proofs.Rules.{value-get, value-run}
 use Rattle.gsb.specs.declared.Walked.{Walked}
 use Rattle.gsb.specs.declared.Walked.the-variants.{Done, Stopped}
 use Rattle.gsb.specs.Walk.{countOf, firstBad}
-use Rattle.gsb.proofs.RoundTrip.{begins-self, wire-one, firstPlace, one-bad-length, one-element}
+use Rattle.gsb.specs.Message.{firstPlace}
+use Rattle.gsb.proofs.RoundTrip.{begins-self, wire-one, one-bad-length, one-element}
 use Rattle.store.specs.declared.Layout.{Layout}
 use Rattle.store.specs.Layout.{Sound}
 use Rattle.transfer.specs.Transfer.{applied, filled}

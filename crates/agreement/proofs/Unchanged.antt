@@ -1,15 +1,15 @@
--- A refused call of the cache leaves the cache, the store and every lent buffer as they were. Assumes nothing.
+-- THEOREMS `write-unchanged`, `read-unchanged`, `run-unchanged`: a refused call of the cache leaves all lent memory as it found it.
+-- Assumes nothing.
 use mathlib.Core.Path.{_≡_, refl, ap, _∙_}
 use mathlib.Core.Bool.{Bool, true, false, not, cond}
 use mathlib.Core.List.{List, _∷_}
 use Prim.Native.Nat.{ℕ}
 use lib.ListN.{length}
-use borrow.Author.Tests.{ne-eqb, not-false}
+use borrow.Author.Tests.{not-false}
 use Rattle.octets.specs.Bytes.{bytesAt, put}
 use Rattle.answer.specs.declared.Fault.{Fault}
 use Rattle.answer.specs.declared.Fault.the-variants.{None, Cache as CacheBad}
-use Rattle.answer.specs.declared.Call.the-variants.{CacheRead}
-use Rattle.answer.specs.Answer.{told}
+use Rattle.answer.specs.declared.Call.{Call as Name}
 use Rattle.gsb.specs.Message.{message}
 use Rattle.gsb.proofs.RoundTrip.{one-value}
 use Rattle.elements.specs.Table.{numberOf}
@@ -21,21 +21,21 @@ use Rattle.admission.proofs.Judging.{each-way}
 use Rattle.state.specs.State.{getState}
 use Rattle.run.specs.Run.{cachedTests, cachedGood, ran, runVcpu}
 use Rattle.l0.specs.Calls.{GetState, outcome}
-use Rattle.promises.specs.Promised.{Unchanged}
+use Rattle.promises.specs.Promised.{NotAccepted, Unchanged}
 use Rattle.promises.proofs.Kept.{refused-unchanged}
-use Rattle.promises.proofs.Told.{none-told}
+use Rattle.promises.proofs.Told.{refused-fault, fault-refused}
 use Rattle.l1.specs.Marks.{Cache, valid, isInput, isReadable, goodCache}
-use Rattle.l1.specs.Cache.{valueTests, WriteOutcome, change, writeCache, ReadOutcome, keep, one, valueIn, fetched, readCache, pending, RunOutcome, ranWith, runCache}
+use Rattle.l1.specs.Cache.{valueTests, change, writeCache, ReadOutcome, keep, one, valueIn, fetched, readCache, pending, RunOutcome, ranWith, runCache}
 use Rattle.l1.proofs.Running.{passed-judged, run-accepted}
-use Rattle.agreement.specs.Refused.{Unread, Unrun}
+use Rattle.agreement.specs.Refused.{Unwritten, Unread, Unrun}
 
 -- ---- write
-pub write-unchanged : (c : Cache) (id : ℕ) (v : List ℕ) → (writeCache c id v .answer .fault ≡ None → ⊥) → writeCache c id v .cache ≡ c
+pub write-unchanged : (c : Cache) (id : ℕ) (v : List ℕ) → Unwritten c (writeCache c id v)
 unfolding writeCache
 write-unchanged c id v =
-    each-way (λ (w : WriteOutcome). (w .answer .fault ≡ None → ⊥) → w .cache ≡ c) (λ f. record { answer = refusal f; cache = c })
+    each-way (Unwritten c) (λ f. record { answer = refusal f; cache = c })
     ((not (goodCache c), CacheBad) ∷ valueTests (isInput id) id v) (record { answer = success 0; cache = change c id v })
-    (λ f n. refl) (λ p n. absurd (n refl))
+    (λ f. record { cache = λ n. refl }) (λ p. record { cache = λ n. absurd (refused-fault Name.CacheWrite (success 0) n refl) })
 
 -- ---- read
 module _ (l : Layout) (s : List ℕ) (guest vcpu : ℕ) (c : Cache) (id : ℕ) (v : List ℕ) where
@@ -45,18 +45,18 @@ module _ (l : Layout) (s : List ℕ) (guest vcpu : ℕ) (c : Cache) (id : ℕ) (
   abbrev got : Outcome
   got = getState l s 0 guest vcpu (one id v)
 
-  beside : Unchanged s (one id v) got
+  beside : Unchanged Name.GetState s (one id v) got
   beside = unfold outcome in refused-unchanged l s (GetState 0 guest vcpu (one id v))
 
   asked : Unread c v (fetched c id (length v) got)
   unfolding fetched
   asked = record {
-    cache = λ n. ap (λ (t : Bool). cond t (keep c id (valueIn (got .buffer) (length v))) c) (ne-eqb (told CacheRead (got .answer .fault) (got .answer .value) .r3) 0 (λ z. n (none-told CacheRead (got .answer .fault) (got .answer .value) z)));
-    value = λ n. ap (λ (b : List ℕ). valueIn b (length v)) (beside .buffer n) ∙ one-value id v;
+    cache = λ n. ap (λ (t : Bool). cond t (keep c id (valueIn (got .buffer) (length v))) c) n;
+    value = λ n. ap (λ (b : List ℕ). valueIn b (length v)) (beside .buffer (fault-refused Name.GetState (got .answer) (refused-fault Name.CacheRead (got .answer) n))) ∙ one-value id v;
   }
 
   either : (t : Bool) → Unread c v (cond t served (fetched c id (length v) got))
-  either true = record { cache = λ n. absurd (n refl); value = λ n. absurd (n refl) }
+  either true = record { cache = λ n. absurd (refused-fault Name.CacheRead (success 0) n refl); value = λ n. absurd (refused-fault Name.CacheRead (success 0) n refl) }
   either false = asked
 
   pub read-unchanged : Unread c v (readCache l s guest vcpu c id v)
@@ -84,10 +84,13 @@ module _ (s : List ℕ) (c : Cache) (flags guest vcpu : ℕ) (input output effec
       ap (λ (o : Outcome). o .answer .fault)
       (run-accepted s (c .values) (c .marks) input output effect flags guest vcpu exit (not-false (goodCache c) (p .0)) (passed-judged tests (p .1)))
 
+  gone-on : Passed ((not (goodCache c), CacheBad) ∷ tests) → NotAccepted Name.CacheRun (gone .answer) → ⊥
+  gone-on p n = refused-fault Name.CacheRun (gone .answer) n (past p)
+
   pub run-unchanged : Unrun s c input output (runCache small s c flags guest vcpu input output effect exit)
   unfolding runCache
   run-unchanged =
       each-way (Unrun s c input output) (λ f. record { answer = refusal f; store = s; cache = c; input = input; output = output })
       ((not (goodCache c), CacheBad) ∷ tests) gone
       (λ f. record { store = λ n. refl; cache = λ n. refl; input = λ n. refl; output = λ n. refl })
-      (λ p. record { store = λ n. absurd (n (past p)); cache = λ n. absurd (n (past p)); input = λ n. absurd (n (past p)); output = λ n. absurd (n (past p)) })
+      (λ p. record { store = λ n. absurd (gone-on p n); cache = λ n. absurd (gone-on p n); input = λ n. absurd (gone-on p n); output = λ n. absurd (gone-on p n) })

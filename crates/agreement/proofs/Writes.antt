@@ -10,15 +10,15 @@ use native.Mathlib.Omega.{arith}
 use lib.Dec.{eqb}
 use lib.ListN.{length, length-append}
 use borrow.Author.Tests.{eq-eqb, ne-eqb}
-use Rattle.octets.specs.Bytes.{put}
-use Rattle.octets.proofs.Bytes.{Clear, length-put, put-put, put-comm}
+use Rattle.octets.specs.Bytes.{put, Clear}
+use Rattle.octets.proofs.Bytes.{length-put, put-put, put-comm}
 use Rattle.elements.specs.Table.{numberOf, threadElement}
 use Rattle.gsb.specs.Message.{elementBytes, elementsBytes}
 use Rattle.gsb.proofs.Messages.{length-element, elements-append}
 use Rattle.exits.specs.Exits.{elementOf}
 use Rattle.l1.specs.Marks.{isInput}
 use Rattle.agreement.specs.Agree.{newest, inOrder}
-use Rattle.l1.proofs.Sent.{Fit}
+use Rattle.l1.specs.Cache.{Fit}
 use Rattle.l1.proofs.Cells.{Named, number-back, named-number, named-back, input-named, places-apart, valueOf, value-other, weight}
 
 -- one written to the slot whose values start at base

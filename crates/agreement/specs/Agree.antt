@@ -1,4 +1,5 @@
--- Demand 3, and 01, "The L1 cache": for every list of operations, the L1 with the cache and the plain L1 agree. The theorem is `cache-agrees`.
+-- Demand 3: "For every list of cache writes, reads and runs on that vCPU, refused ones included, and whatever calls on other guests stand
+-- between them, every answer is the same for both". The theorem is `cache-agrees`.
 use Prim.Native.Nat.{ℕ, zero, suc, _+_, _^_, _≤_, _<_}
 use mathlib.Core.Path.{_≡_}
 use mathlib.Core.Bool.{true, false, cond}
@@ -54,7 +55,8 @@ pub record Cached : Type 0 where
   pub cache : Cache
   pub store : List ℕ
 
--- 01: "Each call gets the store and cache that the last one left, and its own buffers."
+-- Demand 3: "Nobody else writes to the stores or the cache." 01, "The L1 cache": "Each call gets the store and cache that the last one left,
+-- and its own buffers."
 unfoldable pub cachedTurn : Layout → ℕ → ℕ → Op → Cached → Turn Cached
 cachedTurn l guest vcpu (Write id v) b =
     let r = writeCache (b .cache) id v in
@@ -83,8 +85,9 @@ plainTurn l guest vcpu (Other c) s =
     let o = outcome l s c in
     record { shown = record { answer = registers l s c; buffer = o .buffer }; next = o .store; input = [] }
 
--- ---- demand 3: "exactly the elements that accepted writes named since the previous accepted run, once each, in order of ID, newest values"
--- the accepted writes since then, newest first, by the operation and its answer alone
+-- ---- Demand 3: "exactly the elements that accepted writes named since that vCPU's previous accepted run (or the start), once each, in order
+-- of ID, with their newest values"
+-- the accepted writes since then, newest first, by the operation and its answer alone; at the start there are none
 unfoldable pub since : Op → Registers → List (ℕ × List ℕ) → List (ℕ × List ℕ)
 since (Write id v) r ws = cond (accepted r) ((id, v) ∷ ws) ws
 since (Read id v) r ws = ws
@@ -101,7 +104,7 @@ unfoldable pub inOrder : List (ℕ × List ℕ) → ℕ → List (ℕ × List �
 inOrder ws zero = []
 inOrder ws (suc n) = inOrder ws n ++ newest ws (threadElement n .id)
 
--- ---- demand 3: "that run's input holds a count and exactly the elements that .."
+-- ---- Demand 3: "The cache's input for that run then holds a count and exactly the elements"
 -- the first n elements of a buffer, each its ID and its value
 unfoldable pub elementsIn : List ℕ → ℕ → List (ℕ × List ℕ)
 elementsIn b zero = []
@@ -127,17 +130,19 @@ AfterRun (Run flags input output effect exit) r claim = accepted r ≡ true → 
 AfterRun (Other c) r claim = Unit {0}
 
 pub record Same (registered : ℕ) (o : Op) (ws : List (ℕ × List ℕ)) (c : Turn Cached) (p : Turn (List ℕ)) : Type 0 where
-  -- demand 3: "a plain L1 without a cache gets the same answers, values, outputs and buffers"
+  -- Demand 3: "every answer is the same for both, and so is every value buffer after a read, every output after a run and every buffer of
+  -- those other calls"
   pub shown : c .shown ≡ p .shown
-  -- demand 3: "the stores are equal after each accepted run; and that run's input holds .."
+  -- Demand 3: "After each accepted run of that vCPU the two stores are equal."
   pub stores : AfterRun o (p .shown .answer) (λ lent. c .next .store ≡ p .next)
+  -- Demand 3: "The cache's input for that run then holds a count and exactly the elements that accepted writes named"
   pub input : AfterRun o (p .shown .answer) (λ lent. Holds lent registered (inOrder ws 170) (c .input))
 
 -- the size of the run input that the vCPU has registered in the store s
 abbrev pub registeredInput : Layout → ℕ → ℕ → List ℕ → ℕ
 registeredInput l guest vcpu s = inputSize s (baseOf l s false guest vcpu)
 
--- the whole list; demand 3: "One theorem about the whole list"
+-- 01, "The L1 cache": "Demand 3 is one claim about the whole list and not one for each call."
 abbrev pub Agree : Layout → ℕ → ℕ → List Op → List (ℕ × List ℕ) → Cached → List ℕ → Type 0
 Agree l guest vcpu [] ws b s = Unit {0}
 Agree l guest vcpu (o ∷ os) ws b s =
@@ -145,7 +150,7 @@ Agree l guest vcpu (o ∷ os) ws b s =
     × Agree l guest vcpu os (since o (plainTurn l guest vcpu o s .shown .answer) ws) (cachedTurn l guest vcpu o b .next) (plainTurn l guest vcpu o s .next)
 
 -- ---- what it rests on
--- an ID is a number of 16 bits; demand 3: "with any calls on other guests between"
+-- Demand 3: "whatever calls on other guests stand between them"; an ID is a number of 16 bits
 abbrev pub Allowed : ℕ → List Op → Type 0
 Allowed guest [] = Unit {0}
 Allowed guest (Write id v ∷ os) = (id < 2 ^ 16) × Allowed guest os
@@ -153,11 +158,11 @@ Allowed guest (Read id v ∷ os) = (id < 2 ^ 16) × Allowed guest os
 Allowed guest (Run flags input output effect exit ∷ os) = Allowed guest os
 Allowed guest (Other c ∷ os) = Elsewhere guest c × Allowed guest os
 
--- demand 3: "For a live vCPU with both run buffers registered (the input with at least 2,424 bytes) and an empty L1 cache"
+-- Demand 3: "Take a well-formed store, a live vCPU in it with both run buffers registered, the input with at least 2,424 bytes, and an empty
+-- cache of it kept by an L1."
 pub record Start (l : Layout) (guest vcpu : ℕ) (s : List ℕ) (c : Cache) : Type 0 where
-  -- 01: "Live: a used slot word names the vCPU." A vCPU is live only in a well-formed store: the words of another name nothing. In
-  -- another the two differ: a good write is answered 1 by the plain L1, whose write is a set state, and 0 by the cache, which sees no store.
   pub formed : wellFormed l s ≡ true
+  -- 01, "The L1 cache": "Live: a used slot word names the vCPU."
   pub live : slotOf l (header l s) guest vcpu < l .slots
   pub input : goodInput (registeredInput l guest vcpu s) ≡ true
   pub wide : 2424 ≤ registeredInput l guest vcpu s

@@ -1,3 +1,4 @@
 pub mod Plain
 pub mod Agree
 pub mod Refused
+pub mod Example

@@ -1,4 +1,5 @@
--- 01, "The L1 cache": the plain L1, which has a store only and is fed each call's arguments. It is a definition; there is no code of it.
+-- Demand 3: "A plain L1 has a copy of the store and no cache: it sends each write at once, asks L0 for each read and runs with no input."
+-- 01, "The L1 cache": "The plain L1 has a store only and is fed each call's arguments." It is a definition; there is no code of it.
 use Prim.Native.Nat.{ℕ}
 use mathlib.Core.Bool.{Bool}
 use mathlib.Core.List.{List, [], _∷_}

@@ -1,21 +1,17 @@
 -- What the rows say of an ID: inside a range that they name, by computing; outside all of them, by one test a row.
 -- Assumes nothing.
-use mathlib.Core.Path.{_≡_, refl, sym, ap, ap₂, _∙_}
+use mathlib.Core.Path.{_≡_, refl, sym, ap, _∙_}
 use mathlib.Core.Logic.{⊎-elim}
 use mathlib.Core.Bool.{Bool, true, false, cond, _&&_, _||_, false≢true}
 use mathlib.Core.List.{List, [], _∷_}
-use Prim.Native.Nat.{ℕ, zero, suc, _+_, _-_, _*_, min, _≤_, _<_}
-use native.Mathlib.Nat.{not-suc-le-zero, le-of-suc-le-suc, eq-or-lt-of-le, zero-mul}
+use Prim.Native.Nat.{ℕ, zero, suc, _+_, _-_, _≤_, _<_}
+use native.Mathlib.Nat.{not-suc-le-zero, le-of-suc-le-suc, eq-or-lt-of-le}
 use native.Mathlib.Omega.{arith}
-use lib.Dec.{ltb, leb, eqb}
-use borrow.Author.Tests.{lt-leb, leb-true, ltb-true, eqb-true, ne-eqb}
+use lib.Dec.{ltb, leb}
+use borrow.Author.Tests.{lt-leb, leb-true, ltb-true, ne-eqb}
 use Rattle.elements.specs.declared.Row.{Row}
-use Rattle.elements.specs.declared.Kind.{Kind}
 use Rattle.elements.specs.declared.Kind.the-variants.{Unlisted}
-use Rattle.elements.specs.declared.Access.{Access}
-use Rattle.elements.specs.declared.Access.the-variants.{Write, ReadWrite}
-use Rattle.elements.specs.Table.{table, many, names, find, kindOf, sourceOf, position, below, threads, numberOf}
-use Rattle.elements.specs.Private.{threadKind}
+use Rattle.elements.specs.Table.{table, names, find, kindOf}
 
 -- ---- values computed below a number
 
@@ -67,6 +63,12 @@ unnamed a b id r e low high = go (ltb (r .last) a) (leb b (r .first)) refl refl 
     go false true p q e = let h : id < r .first = omega (arith, leb-true b (r .first) q) in simp (lt-leb _ _ h)
     go false false p q e = absurd (false≢true e)
 
+pub clear-head : (a b : ℕ) (r : Row) (rs : List Row) (id : ℕ) → clear a b (r ∷ rs) ≡ true → a ≤ id → id < b → names r id ≡ false
+clear-head a b r rs id e low high = unnamed a b id r (cond-left (misses a b r) (clear a b rs) e) low high
+
+pub clear-tail : (a b : ℕ) (r : Row) (rs : List Row) → clear a b (r ∷ rs) ≡ true → clear a b rs ≡ true
+clear-tail a b r rs e = cond-right (misses a b r) (clear a b rs) e
+
 pub outside : (rs : List Row) (a b : ℕ) → clear a b rs ≡ true → (id : ℕ) → a ≤ id → id < b → find rs id ≡ Unlisted
 unfolding find
 outside [] a b e id low high = refl
@@ -81,66 +83,3 @@ unfolding kindOf
 nowhere a b e id pos low high =
     let h : id ≡ 0 → ⊥ = λ q. omega arith in
     sym (simp (ne-eqb _ _ h, outside table a b e id low high))
-
--- ---- a sum over the rows is the same all over a range, at its end too, where no row that weighs something names an ID
-
-abbrev pub still : (Row → ℕ) → ℕ → ℕ → List Row → Bool
-still weight a b [] = true
-still weight a b (r ∷ rs) = cond (eqb (weight r) 0 || misses a b r) (still weight a b rs) false
-
-level : (w a b id : ℕ) (r : Row) → eqb w 0 || misses a b r ≡ true → a ≤ id → id ≤ b
-    → w * min (id - r .first) (many r) ≡ w * min (a - r .first) (many r)
-level w a b id r e low high = go (eqb w 0) (ltb (r .last) a) (leb b (r .first)) refl refl refl e
-  where
-    go : (z t u : Bool) → eqb w 0 ≡ z → ltb (r .last) a ≡ t → leb b (r .first) ≡ u → z || (t || u) ≡ true
-        → w * min (id - r .first) (many r) ≡ w * min (a - r .first) (many r)
-    go true t u n p q e = simp (eqb-true w 0 n, zero-mul)
-    go false true u n p q e =
-        let h : min (id - r .first) (many r) ≡ min (a - r .first) (many r) = omega (arith, ltb-true (r .last) a p) in
-        ap (λ (m : ℕ). w * m) h
-    go false false true n p q e =
-        let h : min (id - r .first) (many r) ≡ min (a - r .first) (many r) = omega (arith, leb-true b (r .first) q) in
-        ap (λ (m : ℕ). w * m) h
-    go false false false n p q e = absurd (false≢true e)
-
-pub flat : (weight : Row → ℕ) (rs : List Row) (a b : ℕ) → still weight a b rs ≡ true → (id : ℕ) → a ≤ id → id ≤ b
-    → below weight rs a ≡ below weight rs id
-unfolding below
-flat weight [] a b e id low high = refl
-flat weight (r ∷ rs) a b e id low high =
-    let t : Bool = eqb (weight r) 0 || misses a b r in
-    let u : Bool = still weight a b rs in
-    sym (ap₂ _+_ (level (weight r) a b id r (cond-left t u e) low high) (sym (flat weight rs a b (cond-right t u e) id low high)))
-
-pub number-flat : (a b : ℕ) → still threads a b table ≡ true → (id : ℕ) → a ≤ id → id ≤ b → numberOf a ≡ numberOf id
-unfolding numberOf
-number-flat a b e id low high = flat threads table a b e id low high
-
--- ---- the three long ranges
-
--- PPR can't be read
-abbrev registerAccess : ℕ → Access
-registerAccess id = cond (eqb id 0x103A) Write ReadWrite
-
-abbrev register : ℕ → Access → Kind
-register id a = threadKind 8 a (40 + 8 * (id - 0x1000))
-
-abbrev word : ℕ → Kind
-word id = threadKind 4 ReadWrite (712 + 4 * (id - 0x2000))
-
-abbrev vector : ℕ → Kind
-vector id = threadKind 16 ReadWrite (772 + 16 * (id - 0x3000))
-
-pub kind-register : (id : ℕ) (r : Kind) (a : Access) → r ≡ register id a → a ≡ registerAccess id → 0x1000 ≤ id → id < 0x1054
-    → r ≡ kindOf id
-unfolding kindOf find table sourceOf position below
-kind-register id r a p q low high =
-    p ∙ ap (register id) q ∙ inside kindOf (λ (i : ℕ). register i (registerAccess i)) 0x1000 84 refl id low high
-
-pub kind-word : (id : ℕ) → 0x2000 ≤ id → id < 0x200F → word id ≡ kindOf id
-unfolding kindOf find table sourceOf position below
-kind-word id low high = inside kindOf word 0x2000 15 refl id low high
-
-pub kind-vector : (id : ℕ) → 0x3000 ≤ id → id < 0x3040 → vector id ≡ kindOf id
-unfolding kindOf find table sourceOf position below
-kind-vector id low high = inside kindOf vector 0x3000 64 refl id low high

@@ -1,3 +1,7 @@
 pub mod Find
 pub mod Codes
 pub mod Table
+pub mod Ranges
+pub mod Scans
+pub mod Told
+pub mod RegisterLaws

@@ -18,58 +18,10 @@ use Rattle.elements.specs.declared.Entry.{Entry}
 use Rattle.elements.specs.declared.Kind.{Kind}
 use Rattle.elements.specs.declared.Kind.the-variants.{Unlisted, Nop, Listed}
 use Rattle.elements.specs.declared.Element.{Element}
+use Rattle.elements.specs.Right.{bytesOf, everyRow, isKnownSize, allFrom, everyId, onEntry, everyEntry, meets, slotPlaces, guestPlaces, arePlaced, TableRight}
 use Rattle.elements.specs.Table.{table, many, names, below, sameScope, isStored, bytesIn, position, sourceOf, find, kindOf, threads, numberOf, numbered, threadElement}
 
 -- ---- the computed facts
-
--- each row's last ID is not below its first, and is below the next row's first
-abbrev pub ascends : List Row → Bool
-ascends [] = true
-ascends (r ∷ []) = leb (r .first) (r .last)
-ascends (r ∷ s ∷ rs) = (leb (r .first) (r .last) && ltb (r .last) (s .first)) && ascends (s ∷ rs)
-
-abbrev pub everyRow : (Row → Bool) → List Row → Bool
-everyRow test [] = true
-everyRow test (r ∷ rs) = test r && everyRow test rs
-
-abbrev pub known : ℕ → Bool
-known n = eqb n 4 || (eqb n 8 || (eqb n 16 || eqb n 24))
-
--- a test of every ID that a row names; of its entry too
-abbrev pub allFrom : (ℕ → Bool) → ℕ → ℕ → Bool
-allFrom test a zero = true
-allFrom test a (suc n) = test (a + n) && allFrom test a n
-
-abbrev pub everyId : (ℕ → Bool) → Bool
-everyId test = everyRow (λ (r : Row). allFrom test (r .first) (many r)) table
-
-abbrev pub onEntry : (Entry → Bool) → Kind → Bool
-onEntry test Unlisted = false
-onEntry test Nop = false
-onEntry test (Listed x) = test x
-
-abbrev pub everyEntry : (ℕ → Entry → Bool) → Bool
-everyEntry test = everyId (λ (id : ℕ). onEntry (test id) (kindOf id))
-
--- the position of the ID after a stored element is past its value
-abbrev pub meets : ℕ → Entry → Bool
-meets id x = not (isStored id) || eqb (position (x .scope) (suc id)) (position (x .scope) id + x .size)
-
--- past every ID
-abbrev pub past : ℕ
-past = 0x10000
-
-abbrev pub one : Row → ℕ
-one r = 1
-
-pub record TableRight : Type 0 where
-  pub disjoint : ascends table ≡ true
-  pub gapless : everyEntry meets ≡ true
-  pub elements : below one table past ≡ 176
-  pub thread-elements : numberOf past ≡ 170
-  pub guest-bytes : position Guest past ≡ 52
-  pub slot-bytes : position Thread past ≡ 1820
-  pub sizes : everyRow (λ (r : Row). known (r .size)) table ≡ true
 
 pub table-right : TableRight
 unfolding kindOf find table sourceOf position below numberOf
@@ -86,11 +38,11 @@ table-right =
 
 -- ---- from a test of every ID to the rule at each
 
-and-left : (t u : Bool) → T (t && u) → T t
+pub and-left : (t u : Bool) → T (t && u) → T t
 and-left true u h = tt
 and-left false u h = h
 
-and-right : (t u : Bool) → T (t && u) → T u
+pub and-right : (t u : Bool) → T (t && u) → T u
 and-right true u h = h
 and-right false u h = absurd h
 
@@ -110,7 +62,7 @@ named-at test r id t e =
     subst (λ (i : ℕ). T (test i)) q (at-from test (r .first) (many r) t (id - r .first) k)
 
 -- cases of a test
-by : {P : Type 0} (b : Bool) → (b ≡ true → P) → (b ≡ false → P) → P
+pub by : {P : Type 0} (b : Bool) → (b ≡ true → P) → (b ≡ false → P) → P
 by true f g = f refl
 by false f g = g refl
 
@@ -164,7 +116,7 @@ pub size-cases : (id : ℕ) (x : Entry) → kindOf id ≡ Listed x
 unfolding kindOf find table sourceOf position below
 size-cases id x e =
     let n : ℕ = x .size in
-    either (eqb n 4) _ (entry-rule (λ (i : ℕ) (y : Entry). known (y .size)) tt id x e) (eqb→eq n 4)
+    either (eqb n 4) _ (entry-rule (λ (i : ℕ) (y : Entry). isKnownSize (y .size)) tt id x e) (eqb→eq n 4)
     (λ t. either (eqb n 8) _ t (eqb→eq n 8) (λ t. either (eqb n 16) _ t (eqb→eq n 16) (eqb→eq n 24)))
 
 pub size-bound : (id : ℕ) (x : Entry) → kindOf id ≡ Listed x → (4 ≤ x .size) × (x .size ≤ 24)
@@ -221,10 +173,6 @@ source-fixed id x n e q =
     by (isStored id) (λ s. absurd (fixed-stored n _ (sym q ∙ listed-stored id x e s))) (λ s. s)
 
 -- ---- the position
-
-abbrev pub bytesOf : Scope → ℕ
-bytesOf Guest = 52
-bytesOf Thread = 1820
 
 abbrev stored : (ℕ → Entry → Bool) → ℕ → Entry → Bool
 stored test id x = not (isStored id) || test id x
@@ -337,7 +285,7 @@ on-listed test Unlisted t = absurd t
 on-listed test Nop t = absurd t
 on-listed test (Listed x) t = (x, refl, t)
 
-same-thread : (s : Scope) → T (sameScope Thread s) → s ≡ Thread
+pub same-thread : (s : Scope) → T (sameScope Thread s) → s ≡ Thread
 same-thread Guest t = absurd t
 same-thread Thread t = refl
 
@@ -372,28 +320,8 @@ element-number e h =
     let f = on-listed (agrees (threadElement e)) (kindOf i) (and-right (eqb (numberOf i) e) _ t) in
     numbered-as e (f .0) (eqb→eq _ _ (and-left (eqb (numberOf i) e) _ t)) (f .1) (f .2)
 
--- ---- 01, "The store" and "Around each edge": the positions that the paper gives, each with its ID
+-- ---- the positions that 01 gives
 
-abbrev pub slot-places : List (ℕ × ℕ)
-slot-places =
-    (0x0C00, 0)
-    ∷ (0x1000, 40)
-    ∷ (0x101F, 288)
-    ∷ (0x1020, 296)
-    ∷ (0x2000, 712)
-    ∷ (0x200E, 768)
-    ∷ (0x3000, 772)
-    ∷ (0x303F, 1780)
-    ∷ (0xF000, 1796)
-    ∷ []
-
-abbrev pub guest-places : List (ℕ × ℕ)
-guest-places = (0x0003, 0) ∷ (0x0004, 4) ∷ (0x0005, 12) ∷ (0x0006, 36) ∷ []
-
-abbrev pub placed : Scope → List (ℕ × ℕ) → Bool
-placed s [] = true
-placed s (p ∷ ps) = eqb (position s (p .0)) (p .1) && placed s ps
-
-pub paper-places : placed Thread slot-places && placed Guest guest-places ≡ true
+pub paper-places : arePlaced Thread slotPlaces && arePlaced Guest guestPlaces ≡ true
 unfolding table position below
 paper-places = refl

@@ -1,2 +1,5 @@
 pub mod Table
+pub mod Ranges
+pub mod Registers
 pub mod Private
+pub mod Right

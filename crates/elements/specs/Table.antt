@@ -2,7 +2,6 @@
 use Prim.Native.Nat.{ℕ, suc, _+_, _-_, _*_, min}
 use mathlib.Core.Bool.{Bool, true, false, cond, _&&_}
 use mathlib.Core.List.{List, [], _∷_}
-use lib.ListN.{getD}
 use lib.Dec.{ltb, leb, eqb}
 use Rattle.elements.specs.declared.Access.{Access}
 use Rattle.elements.specs.declared.Access.the-variants.{Read, Write, ReadWrite}
@@ -181,10 +180,6 @@ table =
     -- ASDR
     ∷ row 0xF003 0xF003 0x08 R T
     ∷ []
-
--- row i, counted from 0
-abbrev pub rowAt : ℕ → Row
-rowAt i = getD table i (row 0 0 0 RW T)
 
 -- how many IDs a row names, and whether an ID is one of them
 abbrev pub many : Row → ℕ

@@ -1,13 +1,16 @@
 // The elements of a guest state buffer: the one constant table, and the types in which it is told what an ID is.
-// `kinds` tells it of an ID and of a number, `rules` what a call may do with an element.
+// `kinds` and `numbers` scan it, `registers` has the short way for nearly all IDs; the crate `rules` says what a call may do with an
+// element.
 mod kinds;
 mod numbers;
+mod registers;
 mod rows;
 
 pub use kinds::kind_of;
 pub use numbers::number_of;
 pub use numbers::thread_element;
-pub use rows::row_at;
+pub use registers::is_register;
+pub use registers::register_of;
 
 pub enum Access {
     Read,
@@ -20,7 +23,7 @@ pub enum Scope {
     Thread,
 }
 
-// A row of the source's table: the IDs from first to last have values of size bytes each.
+// A row of the table: the IDs from first to last have values of size bytes each.
 pub struct Row {
     pub first: u16,
     pub last: u16,
@@ -52,6 +55,12 @@ pub enum Kind {
 // A thread element by its number: its ID, its size and where its value lies in a slot's values.
 pub struct Element {
     pub id: u16,
+    pub size: usize,
+    pub position: usize,
+}
+
+// A register: its size, 0 where an ID is none, and where its value lies in a slot's values.
+pub struct Register {
     pub size: usize,
     pub position: usize,
 }

@@ -2,7 +2,7 @@
 use mathlib.Core.Path.{_≡_, refl, sym, ap, _∙_, subst}
 use mathlib.Core.Bool.{Bool, true, false, _&&_}
 use mathlib.Core.List.{List, [], _∷_, _++_}
-use Prim.Native.Nat.{ℕ, zero, suc, _+_, _-_, _*_, _≤_, _<_, _^_}
+use Prim.Native.Nat.{ℕ, zero, suc, _+_, _-_, _≤_, _<_, _^_}
 use native.Mathlib.Nat.{not-suc-le-zero, le-of-suc-le-suc}
 use native.Mathlib.Numerals.{add-one}
 use native.Mathlib.Omega.{arith}
@@ -14,12 +14,12 @@ use Rattle.octets.specs.Bytes.{bytesAt, put, zeros}
 use Rattle.octets.proofs.Bytes.{length-bytesAt}
 use Rattle.elements.specs.declared.Element.{Element}
 use Rattle.elements.specs.Table.{table, below, position, numberOf, numbered, threadElement}
-use Rattle.rules.specs.Rules.{between}
-use Rattle.elements.proofs.Find.{inside}
+use Rattle.elements.specs.declared.Register.{Register}
+use Rattle.elements.specs.Registers.{registerOf}
+use Rattle.elements.proofs.RegisterLaws.{is-register, register-element}
 use Rattle.gsb.specs.Message.{elementBytes, elementsBytes}
-use Rattle.rules.proofs.Rules.{between-low, between-high}
 use Rattle.gsb.proofs.Messages.{length-more, elements-none, elements-more}
-use Rattle.exits.specs.Exits.{exits, elementOf, weigh, rowBytes, valued}
+use Rattle.exits.specs.Exits.{exits, elementOf, weigh, bytesColumn, valued}
 use Rattle.exits.specs.Private.{exitAt, codes}
 
 -- ---- what an element and a row must be
@@ -137,11 +137,7 @@ weighed base s ids (suc j) room a h =
     ∙ length-more (valued base s (take j ids)) (getD ids j 0) (valueIn base s (getD ids j 0)) ∙ omega (arith, w, n, weigh-next ids j l) ∙ ap weigh (sym e)
 
 -- THEOREM `exit-bytes`: the bytes of each row are those of 01's table
-abbrev bytesIn : List (ℕ × List ℕ) → List ℕ
-bytesIn [] = []
-bytesIn (x ∷ xs) = rowBytes (x .1) ∷ bytesIn xs
-
-pub exit-bytes : bytesIn exits ≡ 124 ∷ 36 ∷ 16 ∷ 12 ∷ 16 ∷ 4 ∷ 4 ∷ []
+pub exit-bytes : bytesColumn exits ≡ 124 ∷ 36 ∷ 16 ∷ 12 ∷ 16 ∷ 4 ∷ 4 ∷ []
 unfolding exits weigh threadElement numbered numberOf position below table
 exit-bytes = refl
 
@@ -250,35 +246,31 @@ module _ (id n : ℕ) (x : Element) (e : n ≡ numberOf id) (q : x ≡ threadEle
   pub thread-put : (base at : ℕ) (s b y : List ℕ) → y ≡ put b at (elementBytes id (bytesAt s (base + x .position) (x .size))) → y ≡ put b at (elementBytes id (bytesAt s (base + elementOf id .position) (elementOf id .size)))
   thread-put base at s b y h = h ∙ ap (λ (z : Element). put b at (elementBytes id (bytesAt s (base + z .position) (z .size)))) thread-is
 
--- ---- a register of 8 bytes, by the range that its ID is in
-register-is : (id : ℕ) → 0x1000 ≤ id → id < 0x1054 → record { id = id; size = 8; position = 40 + 8 * (id - 0x1000) } ≡ elementOf id
-unfolding threadElement numbered numberOf position below table
-register-is id low high =
-    inside elementOf (λ (i : ℕ). record { id = i; size = 8; position = 40 + 8 * (i - 0x1000) }) 0x1000 84 refl id low high
+-- ---- a register
+module _ (id : ℕ) (r : Register) (e : r ≡ registerOf id) (n : r .size ≡ 0 → ⊥) where
+  register : record { id = id; size = r .size; position = r .position } ≡ elementOf id
+  register = register-element id r (is-register id r e n)
 
-module _ (id : ℕ) (r : Bool) (w : r ≡ between 0x1000 0x1053 id) (t : r ≡ true) where
-  register : record { id = id; size = 8; position = 40 + 8 * (id - 0x1000) } ≡ elementOf id
-  register =
-      let high : id ≤ 0x1053 = between-high 0x1000 0x1053 id (sym w ∙ t) in
-      register-is id (between-low 0x1000 0x1053 id (sym w ∙ t)) (omega arith)
-
-  register-size : 8 ≡ elementOf id .size
+  register-size : r .size ≡ elementOf id .size
   register-size = ap (λ (y : Element). y .size) register
 
-  register-place : 40 + 8 * (id - 0x1000) ≡ elementOf id .position
+  register-place : r .position ≡ elementOf id .position
   register-place = ap (λ (y : Element). y .position) register
 
-  pub register-low : 0x1000 ≤ id
-  register-low = between-low 0x1000 0x1053 id (sym w ∙ t)
+  pub register-fits : (base len : ℕ) → base + elementOf id .position + elementOf id .size ≤ len → len < 2 ^ 64 → base + r .position < 2 ^ 64
+  register-fits base len h l = omega (arith, h, l, register-place)
 
-  pub register-room : (at olen : ℕ) → at + 4 + elementOf id .size ≤ olen → at + 4 + 8 ≤ olen
+  pub register-small : elementOf id .size < 2 ^ 16 → r .size < 2 ^ 16
+  register-small h = omega (arith, register-size)
+
+  pub register-room : (at olen : ℕ) → at + 4 + elementOf id .size ≤ olen → at + 4 + r .size ≤ olen
   register-room at olen h = omega (arith, register-size)
 
-  pub register-inside : (base slen : ℕ) → base + elementOf id .position + elementOf id .size ≤ slen → base + (40 + 8 * (id - 0x1000)) + 8 ≤ slen
+  pub register-inside : (base slen : ℕ) → base + elementOf id .position + elementOf id .size ≤ slen → base + r .position + r .size ≤ slen
   register-inside base slen h = omega (arith, register-size, register-place)
 
-  pub register-next : (at x : ℕ) → x ≡ at + 4 + 8 → x ≡ at + 4 + elementOf id .size
+  pub register-next : (at x : ℕ) → x ≡ at + 4 + r .size → x ≡ at + 4 + elementOf id .size
   register-next at x h = omega (arith, h, register-size)
 
-  pub register-put : (base at : ℕ) (s b y : List ℕ) → y ≡ put b at (elementBytes id (bytesAt s (base + (40 + 8 * (id - 0x1000))) 8)) → y ≡ put b at (elementBytes id (bytesAt s (base + elementOf id .position) (elementOf id .size)))
+  pub register-put : (base at : ℕ) (s b y : List ℕ) → y ≡ put b at (elementBytes id (bytesAt s (base + r .position) (r .size))) → y ≡ put b at (elementBytes id (bytesAt s (base + elementOf id .position) (elementOf id .size)))
   register-put base at s b y h = h ∙ ap (λ (z : Element). put b at (elementBytes id (bytesAt s (base + z .position) (z .size)))) register

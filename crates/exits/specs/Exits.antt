@@ -48,6 +48,11 @@ weigh (id ∷ ids) = 4 + elementOf id .size + weigh ids
 abbrev pub rowBytes : List ℕ → ℕ
 rowBytes ids = 4 + weigh ids
 
+-- that column, row for row
+abbrev pub bytesColumn : List (ℕ × List ℕ) → List ℕ
+bytesColumn [] = []
+bytesColumn (x ∷ xs) = rowBytes (x .1) ∷ bytesColumn xs
+
 -- thread elements with the values that they have in the slot whose values start at base of the store s
 unfoldable pub valued : ℕ → List ℕ → List ℕ → List (ℕ × List ℕ)
 valued base s [] = []

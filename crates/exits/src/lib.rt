@@ -1,9 +1,9 @@
 // The exits of a run: the one constant table of which elements each returns, and the output that they make.
 use elements::number_of;
+use elements::register_of;
 use elements::thread_element;
 use gsb::put_element;
 use octets::put32;
-use rules::within;
 ghost use mathlib.Core.Path.{_≡_};
 ghost use mathlib.Core.Bool.{true};
 ghost use Prim.Native.Nat.{_+_, _≤_, _<_, _^_};
@@ -85,14 +85,14 @@ pub fn is_known(exit: u64) -> bool
     row_of(exit) < 7
 }
 
-// A thread element with its value in the slot; returns where the next goes. The registers of 8 bytes come first.
+// A thread element with its value in the slot; returns where the next goes. The registers come first.
 fn put_thread(store: &[u8], base: usize, id: u16, output: &mut [u8], at: usize) -> usize
     requires { ⌜ (numberOf id < 170) × (elementOf id .size < 2 ^ 16) × (base + elementOf id .position + elementOf id .size ≤ length (now store)) × (at + 4 + elementOf id .size ≤ length (now output)) ⌝ }
     ensures { λ r. ⌜ (r ≡ at + 4 + elementOf id .size) × (now (output .exit) ≡ put (now (output .entry)) at (elementBytes id (bytesAt (now (store .entry)) (base + elementOf id .position) (elementOf id .size)))) ⌝ }
 {
-    let n = id as usize;
-    if within(0x1000, 0x1053, n as u64) {
-        return put_element(output, at, id, store, base + (40 + 8 * (n - 0x1000)), 8);
+    let r = register_of(id);
+    if r.size != 0 {
+        return put_element(output, at, id, store, base + r.position, r.size);
     }
     let x = thread_element(number_of(id));
     put_element(output, at, id, store, base + x.position, x.size)

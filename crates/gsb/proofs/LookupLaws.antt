@@ -1,13 +1,15 @@
 -- The laws of the lookup: nothing else opens `framed`, `lastWith`, `partOf` and `lookedUp`. Assumes nothing.
 use mathlib.Core.Path.{_≡_, refl, sym, ap, _∙_, subst}
+use mathlib.Core.Logic.{_≢_}
 use mathlib.Core.Bool.{Bool, true, false, cond}
 use mathlib.Core.List.{List}
-use Prim.Native.Nat.{ℕ, _+_, _-_, _*_, _^_, _≤_, _<_}
+use Prim.Native.Nat.{ℕ, zero, suc, _+_, _-_, _*_, _^_, _≤_, _<_}
 use native.Mathlib.Numerals.{add-one}
+use native.Mathlib.Decide.{decLt, ℕ-discrete}
 use native.Mathlib.Omega.{arith}
 use lib.Dec.{ltb, eqb}
 use lib.ListN.{length, take, drop}
-use borrow.Author.Tests.{lt-ltb, le-ltb, ltb-false}
+use borrow.Author.Tests.{lt-ltb, le-ltb, ltb-false, eq-eqb, ne-eqb}
 use Rattle.octets.specs.Bytes.{bytesAt}
 use Rattle.octets.proofs.Bytes.{part-lent}
 use Rattle.answer.specs.declared.Bad.{Bad}
@@ -22,6 +24,7 @@ use Rattle.gsb.specs.declared.lookups.Last.{Last}
 use Rattle.gsb.specs.declared.lookups.Last.the-variants.{Nowhere, At}
 use Rattle.gsb.specs.declared.lookups.Found.{Found}
 use Rattle.gsb.specs.Walk.{countOf, idAt, sizeAt, nextAt, offsetAt, badLength, walk}
+use Rattle.gsb.specs.First.{Leads}
 use Rattle.gsb.specs.Lookup.{framed, lastWith, Inside, notFound, partOf, unlessCut, lookedUp, valueOf}
 use Rattle.gsb.proofs.Judged.{passed}
 use Rattle.rules.proofs.Rules.{between-low, between-high}
@@ -49,22 +52,6 @@ module _ (b : List ℕ) (at : ℕ) where
       let u : nextAt b at ≤ length b = omega arith in
       rw e (simp (le-ltb _ _ t, le-ltb _ _ u))
 
-  -- a size that the number above the ID tells, of a value that lies inside
-  module _ (key : ℕ) (r : Bool) (room : 20 ≤ length b - at) (k : key ≡ sizeAt b at * 2 ^ 16 + idAt b at) (i : idAt b at < 2 ^ 16) where
-    pub framed-eight : r ≡ between 0x80000 0x8FFFF key → r ≡ true → Good (at + 12) ≡ framed b at
-    framed-eight p q =
-        let low : 0x80000 ≤ key = between-low 0x80000 0x8FFFF key (sym p ∙ q) in
-        let high : key ≤ 0x8FFFF = between-high 0x80000 0x8FFFF key (sym p ∙ q) in
-        let n : at + 12 ≡ at + 4 + 8 = omega arith in
-        ap Good n ∙ framed-good 8 (omega arith) (omega arith) (omega arith)
-
-    pub framed-sixteen : r ≡ between 0x100000 0x10FFFF key → r ≡ true → Good (at + 20) ≡ framed b at
-    framed-sixteen p q =
-        let low : 0x100000 ≤ key = between-low 0x100000 0x10FFFF key (sym p ∙ q) in
-        let high : key ≤ 0x10FFFF = between-high 0x100000 0x10FFFF key (sym p ∙ q) in
-        let n : at + 20 ≡ at + 4 + 16 = omega arith in
-        ap Good n ∙ framed-good 16 (omega arith) (omega arith) (omega arith)
-
   pub framed-inside : (next : ℕ) (v : Verdict) → v ≡ framed b at → v ≡ Good next → (next ≡ nextAt b at) × (nextAt b at ≤ length b)
   unfolding framed
   framed-inside next v j g =
@@ -81,6 +68,15 @@ module _ (b : List ℕ) (at : ℕ) where
   pub framed-bad : (bad : Bad) → framed b at ≡ Faulty bad → bad ≡ Size
   unfolding framed
   framed-bad bad e = cut-size (ltb (length b) (at + 4)) (ltb (length b) (nextAt b at)) (nextAt b at) bad e
+
+-- a size of 16 bytes or less that the number above the ID tells, of a value that lies inside
+pub framed-known : (size low high far : ℕ) → low ≡ size * 2 ^ 16 → high ≡ size * 2 ^ 16 + 0xFFFF → far ≡ 4 + size → size ≤ 16 → (b : List ℕ) (at key : ℕ) (r : Bool)
+    → 20 ≤ length b - at → key ≡ sizeAt b at * 2 ^ 16 + idAt b at → idAt b at < 2 ^ 16 → r ≡ between low high key → r ≡ true → Good (at + far) ≡ framed b at
+framed-known size low high far x y z few b at key r room k i p q =
+    let above : low ≤ key = between-low low high key (sym p ∙ q) in
+    let under : key ≤ high = between-high low high key (sym p ∙ q) in
+    let n : at + far ≡ at + 4 + size = omega arith in
+    ap Good n ∙ framed-good b at size (omega arith) (omega arith) (omega arith)
 
 -- ---- the last element with an ID
 module _ (b : List ℕ) (id i at : ℕ) (last found : Last) where
@@ -146,3 +142,51 @@ pub value-part : (b : List ℕ) (id : ℕ) (x : Found) → x ≡ lookedUp b id �
 value-part b id x e =
     let n : x .at + x .len - x .at ≡ x .len = omega arith in
     ap (λ (m : ℕ). take m (drop (x .at) b)) n ∙ part-lent b (x .at) (x .len) ∙ ap (λ (f : Found). bytesAt b (f .at) (f .len)) e
+
+-- ---- past 5: what the walk finds, then the last element with the ID
+pub framed-leads : (b : List ℕ) → Leads (framed b) b
+framed-leads b at next g = framed-inside b at next (framed b at) refl g .0
+
+pub looked-walk : (b : List ℕ) (id : ℕ) → badLength b ≡ false → lookedUp b id ≡ unlessCut (walk (framed b) (countOf b) 0 4) (partOf b (lastWith b id (countOf b)))
+unfolding lookedUp
+looked-walk b id e = simp e
+
+-- of the first n elements: none has the ID, or the last that has it is found
+pub last-nowhere : (b : List ℕ) (id n : ℕ) → ((i : ℕ) → i < n → idAt b (offsetAt b i) ≢ id) → lastWith b id n ≡ Nowhere
+unfolding lastWith
+last-nowhere b id zero h = refl
+last-nowhere b id (suc n) h = ap (λ (t : Bool). cond t (At (offsetAt b n)) (lastWith b id n)) (ne-eqb _ _ (h n (omega arith))) ∙ last-nowhere b id n (λ i l. h i (omega arith))
+
+pub last-found : (b : List ℕ) (id n i : ℕ) → i < n → idAt b (offsetAt b i) ≡ id → ((j : ℕ) → i < j → j < n → idAt b (offsetAt b j) ≢ id) → lastWith b id n ≡ At (offsetAt b i)
+unfolding lastWith
+last-found b id zero i l e h = absurd (omega arith)
+last-found b id (suc n) i l e h = go (decLt i n) (λ m. last-found b id n i m e (λ j k o. h j k (omega arith)))
+  where
+    go : Dec (i < n) → (i < n → lastWith b id n ≡ At (offsetAt b i)) → cond (eqb (idAt b (offsetAt b n)) id) (At (offsetAt b n)) (lastWith b id n) ≡ At (offsetAt b i)
+    go (yes m) ih = ap (λ (t : Bool). cond t (At (offsetAt b n)) (lastWith b id n)) (ne-eqb _ _ (h n m (omega arith))) ∙ ih m
+    go (no m) ih =
+        let q : i ≡ n = omega arith in
+        ap (λ (t : Bool). cond t (At (offsetAt b n)) (lastWith b id n)) (eq-eqb _ _ (ap (λ (x : ℕ). idAt b (offsetAt b x)) (sym q) ∙ e))
+        ∙ ap (λ (x : ℕ). At (offsetAt b x)) (sym q)
+
+-- and which of the two it is
+pub data Sought (b : List ℕ) (id n : ℕ) : Type 0 where
+  missing : ((i : ℕ) → i < n → idAt b (offsetAt b i) ≢ id) → Sought b id n
+  present : (i : ℕ) → i < n → idAt b (offsetAt b i) ≡ id → ((j : ℕ) → i < j → j < n → idAt b (offsetAt b j) ≢ id) → Sought b id n
+
+pub sought : (b : List ℕ) (id n : ℕ) → Sought b id n
+sought b id zero = missing (λ i l. absurd (omega arith))
+sought b id (suc n) = go (ℕ-discrete (idAt b (offsetAt b n)) id) (sought b id n)
+  where
+    go : Dec (idAt b (offsetAt b n) ≡ id) → Sought b id n → Sought b id (suc n)
+    go (yes e) s = present n (omega arith) e (λ j k l. absurd (omega arith))
+    go (no e) (missing h) = missing (λ i l. at i l (decLt i n))
+      where
+        at : (i : ℕ) → i < suc n → Dec (i < n) → idAt b (offsetAt b i) ≢ id
+        at i l (yes m) = h i m
+        at i l (no m) = let q : i ≡ n = omega arith in λ z. e (ap (λ (x : ℕ). idAt b (offsetAt b x)) (sym q) ∙ z)
+    go (no e) (present i l f h) = present i (omega arith) f (λ j k m. at j k m (decLt j n))
+      where
+        at : (j : ℕ) → i < j → j < suc n → Dec (j < n) → idAt b (offsetAt b j) ≢ id
+        at j k m (yes o) = h j k o
+        at j k m (no o) = let q : j ≡ n = omega arith in λ z. e (ap (λ (x : ℕ). idAt b (offsetAt b x)) (sym q) ∙ z)

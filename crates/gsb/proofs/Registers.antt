@@ -1,22 +1,24 @@
 -- The registers that are judged by one number, their size above their ID. Assumes nothing.
-use mathlib.Core.Path.{_≡_, refl, sym, ap, _∙_, subst}
+use mathlib.Core.Path.{_≡_, refl, sym, ap, ap₂, _∙_, subst}
 use mathlib.Core.Bool.{Bool, true, false, cond, _&&_, false≢true}
 use mathlib.Core.List.{List}
-use Prim.Native.Nat.{ℕ, _+_, _-_, _*_, _^_, _≤_, _<_}
+use Prim.Native.Nat.{ℕ, _+_, _-_, _*_, _%_, _^_, _≤_, _<_}
 use native.Mathlib.Omega.{arith}
-use lib.Dec.{leb, eqb}
+use lib.Dec.{leb}
 use lib.ListN.{length}
-use borrow.Author.Tests.{leb-true, ne-eqb}
-use Rattle.elements.specs.declared.Access.the-variants.{Write, ReadWrite}
+use borrow.Author.Tests.{leb-true, eq-eqb}
+use Rattle.elements.specs.declared.Access.{Access}
+use Rattle.elements.specs.declared.Access.the-variants.{ReadWrite}
 use Rattle.answer.specs.declared.Bad.{Bad}
 use Rattle.answer.specs.declared.Place.{Place}
 use Rattle.rules.specs.declared.Context.{Context}
 use Rattle.elements.specs.Table.{kindOf}
-use Rattle.rules.specs.Rules.{between, sizeFits}
+use Rattle.rules.specs.Rules.{sizeFits}
 use Rattle.elements.specs.Private.{threadKind}
 use Rattle.rules.specs.Private.{ofThread}
-use Rattle.elements.proofs.Find.{kind-register, kind-word, kind-vector}
-use Rattle.rules.proofs.Rules.{and-left, and-right, between-low, between-high, permits-register, value-register}
+use Rattle.elements.specs.Registers.{registerOf, isHeader}
+use Rattle.elements.proofs.RegisterLaws.{IsRegister, is-register, ppr-double, header-size, header-register}
+use Rattle.rules.proofs.Rules.{and-left, and-right, permits-register, value-register}
 use Rattle.gsb.specs.declared.Verdict.{Verdict}
 use Rattle.gsb.specs.declared.Verdict.the-variants.{Good, Faulty}
 use Rattle.gsb.specs.declared.Walked.{Walked}
@@ -35,11 +37,8 @@ module _ (k : Context) (b : List ℕ) (at : ℕ) (t : true ≡ ofThread (k .usag
       (sym (permits-register k (idAt b at) size p t low)) refl true (sym f) refl (omega arith) true
       (sym (value-register k (idAt b at) b (at + 4) low)) refl
 
-register-read : (id : ℕ) → (id ≡ 0x103A → ⊥) → ReadWrite ≡ cond (eqb id 0x103A) Write ReadWrite
-register-read id h = sym (simp (ne-eqb _ _ h))
-
 -- by the number, as it was read
-module _ (b : List ℕ) (at key room : ℕ) (lent : room ≤ length b) (fits : at + 12 ≤ room) (e : key ≡ sizeAt b at * 2 ^ 16 + idAt b at)
+module _ (size : ℕ) (b : List ℕ) (at key room : ℕ) (lent : room ≤ length b) (fits : at + 12 ≤ room) (e : key ≡ sizeAt b at * 2 ^ 16 + idAt b at)
     (l : idAt b at < 2 ^ 16) where
   is-thread : (k : Context) → room ≡ reachOf (k .usage) b → true ≡ ofThread (k .usage)
   is-thread k h = go (ofThread (k .usage)) h
@@ -52,49 +51,44 @@ module _ (b : List ℕ) (at key room : ℕ) (lent : room ≤ length b) (fits : a
   hasty : (next : ℕ) → next ≤ room → ((k : Context) → room ≡ reachOf (k .usage) b → Good next ≡ judged k b at) → QuickVerdict (Good next) room b at
   hasty next h f = (omega arith, f)
 
-  double : 0x81000 ≤ key → key ≤ 0x81053 → (key ≡ 0x8103A → ⊥) → (k : Context) → room ≡ reachOf (k .usage) b → Good (at + 12) ≡ judged k b at
-  unfolding sizeFits
-  double low high h k u =
-      let s : 8 ≡ sizeAt b at = omega arith in
-      let n : at + 12 ≡ at + 4 + 8 = omega arith in
-      ap Good n
-      ∙ plain k b at (is-thread k u) (omega arith) 8 (40 + 8 * (idAt b at - 0x1000)) refl
-      (kind-register (idAt b at) _ ReadWrite refl (register-read (idAt b at) (λ q. h (omega arith))) (omega arith) (omega arith))
-      s (omega arith)
+  -- a header that is a register's
+  module _ (found : Bool) (f : found ≡ isHeader size key) (t : found ≡ true) where
+    of-register : (0 < size) × (registerOf (key % 2 ^ 16) .size ≡ size)
+    of-register = header-register found size key f t
 
-  pub quick-double : (r : Bool) → r ≡ between 0x81000 0x81053 key → r ≡ true → (key ≡ 0x8103A → ⊥) → QuickVerdict (Good (at + 12)) room b at
-  quick-double r p q h =
-      let f : between 0x81000 0x81053 key ≡ true = sym p ∙ q in
-      hasty (at + 12) fits (double (between-low 0x81000 0x81053 key f) (between-high 0x81000 0x81053 key f) h)
+    its-size : size ≡ sizeAt b at
+    its-size = omega (arith, header-size found size key f t)
 
-  vector : 0x103000 ≤ key → key ≤ 0x10303F → at + 20 ≤ room → (k : Context) → room ≡ reachOf (k .usage) b → Good (at + 20) ≡ judged k b at
-  unfolding sizeFits
-  vector low high long k u =
-      let s : 16 ≡ sizeAt b at = omega arith in
-      let n : at + 20 ≡ at + 4 + 16 = omega arith in
-      ap Good n
-      ∙ plain k b at (is-thread k u) (omega arith) 16 (772 + 16 * (idAt b at - 0x3000)) refl
-      (kind-vector (idAt b at) (omega arith) (omega arith)) s (omega arith)
+    same-size : registerOf (idAt b at) .size ≡ size
+    same-size = let i : key % 2 ^ 16 ≡ idAt b at = omega arith in ap (λ (i : ℕ). registerOf i .size) (sym i) ∙ of-register .1
 
-  pub quick-vector : (r : Bool) → r ≡ between 0x103000 0x10303F key → r && leb (at + 20) room ≡ true → QuickVerdict (Good (at + 20)) room b at
-  quick-vector r p q =
-      let f : between 0x103000 0x10303F key ≡ true = sym p ∙ and-left r _ q in
-      let long : at + 20 ≤ room = leb-true _ _ (and-right r _ q) in
-      hasty (at + 20) long (vector (between-low 0x103000 0x10303F key f) (between-high 0x103000 0x10303F key f) long)
+    its-register : IsRegister (idAt b at) (registerOf (idAt b at))
+    its-register = is-register (idAt b at) (registerOf (idAt b at)) refl (λ z. omega (arith, same-size, of-register .0))
 
-  word : 0x42000 ≤ key → key ≤ 0x4200E → (k : Context) → room ≡ reachOf (k .usage) b → Good (at + 8) ≡ judged k b at
-  unfolding sizeFits
-  word low high k u =
-      let s : 4 ≡ sizeAt b at = omega arith in
-      let n : at + 8 ≡ at + 4 + 4 = omega arith in
-      ap Good n
-      ∙ plain k b at (is-thread k u) (omega arith) 4 (712 + 4 * (idAt b at - 0x2000)) refl
-      (kind-word (idAt b at) (omega arith) (omega arith)) s (omega arith)
+    -- but PPR's
+    not-ppr : (key ≡ 0x8103A → ⊥) → idAt b at ≡ 0x103A → ⊥
+    not-ppr h q =
+        let s : registerOf (idAt b at) .size ≡ 8 = ap (λ (i : ℕ). registerOf i .size) q ∙ ppr-double in
+        h (omega (arith, same-size, its-size, s))
 
-  pub quick-word : (r : Bool) → r ≡ between 0x42000 0x4200E key → r ≡ true → QuickVerdict (Good (at + 8)) room b at
-  quick-word r p q =
-      let f : between 0x42000 0x4200E key ≡ true = sym p ∙ q in
-      hasty (at + 8) (omega arith) (word (between-low 0x42000 0x4200E key f) (between-high 0x42000 0x4200E key f))
+    judged-register : (k : Context) → room ≡ reachOf (k .usage) b → (key ≡ 0x8103A → ⊥) → at + 4 + size ≤ length b → Good (at + 4 + size) ≡ judged k b at
+    unfolding sizeFits
+    judged-register k u h long =
+        let p : ℕ = registerOf (idAt b at) .position in
+        plain k b at (is-thread k u) (its-register .low) size p (eq-eqb size size refl)
+        (ap₂ (λ (n : ℕ) (a : Access). threadKind n a p) (sym same-size) (sym (its-register .plain (not-ppr h))) ∙ its-register .kind)
+        its-size long
+
+    pub quick-register : (next : ℕ) → next ≡ at + 4 + size → next ≤ room → (key ≡ 0x8103A → ⊥) → QuickVerdict (Good next) room b at
+    quick-register next n long h = hasty next long (λ k u. ap Good n ∙ judged-register k u h (omega arith))
+
+    -- of another size it is not PPR's
+    pub quick-other : (next : ℕ) → next ≡ at + 4 + size → next ≤ room → (size ≡ 8 → ⊥) → QuickVerdict (Good next) room b at
+    quick-other next n long ne = quick-register next n long (λ q. ne (omega (arith, header-size found size key f t)))
+
+  pub quick-long : (found : Bool) (next : ℕ) → found ≡ isHeader size key → found && leb next room ≡ true → next ≡ at + 4 + size → (size ≡ 8 → ⊥)
+      → QuickVerdict (Good next) room b at
+  quick-long found next f q n ne = quick-other found f (and-left found _ q) next n (leb-true _ _ (and-right found _ q)) ne
 
 -- an empty NOP, in every use
 pub quick-empty : (b : List ℕ) (at key room : ℕ) → room ≤ length b → at + 12 ≤ room → key ≡ sizeAt b at * 2 ^ 16 + idAt b at → key ≡ 0

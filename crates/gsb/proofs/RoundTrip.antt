@@ -16,7 +16,6 @@ use Rattle.octets.proofs.Bytes.{length-put, length-bytesAt, part-lent, part-of-
 use Rattle.octets.proofs.Numbers.{be-part, be-of-digits, length-digits}
 use Rattle.answer.specs.declared.Bad.{Bad}
 use Rattle.answer.specs.declared.Bad.the-variants.{Id, Size, Value}
-use Rattle.answer.specs.declared.Place.{Place}
 use Rattle.rules.specs.declared.Usage.the-variants.{RunInput}
 use Rattle.rules.specs.declared.Context.{Context}
 use Rattle.elements.specs.declared.Entry.{Entry}
@@ -28,22 +27,13 @@ use Rattle.rules.proofs.Rules.{value-run}
 use Rattle.gsb.specs.declared.Verdict.the-variants.{Good, Faulty}
 use Rattle.gsb.specs.declared.Walked.the-variants.{Done, Stopped}
 use Rattle.gsb.specs.Walk.{countOf, idAt, sizeAt, nextAt, offsetAt, badLength, judged, firstBad}
-use Rattle.gsb.specs.Message.{elementBytes, elementsBytes, message}
+use Rattle.gsb.specs.Message.{elementBytes, elementsBytes, message, Stands, Begins, nthId, nthValue, Wire, firstPlace}
 use Rattle.gsb.proofs.Judged.{judged-id, judged-size, judged-value, judged-good}
 use Rattle.gsb.proofs.Walks.{walk-end, walk-good, walk-bad, offset-start, offset-next, first-start}
-use Rattle.gsb.proofs.First.{accepted-exactly}
+use Rattle.gsb.proofs.First.{all-good}
 use Rattle.gsb.proofs.Messages.{length-element, element-parts, elements-nil, elements-parts, elements-append, message-parts, length-more, length-message}
 
 -- ---- bytes that stand in a buffer
-
--- v stands in b from `at` on
-pub record Stands (b : List ℕ) (at : ℕ) (v : List ℕ) : Type 0 where
-  pub within : at + length v ≤ length b
-  pub same : bytesAt b at (length v) ≡ v
-
--- b begins with v: bytesAt b 0 (length v) ≡ v, and v is no longer than b
-abbrev pub Begins : List ℕ → List ℕ → Type 0
-Begins b v = Stands b 0 v
 
 pub begins-by : (b v : List ℕ) → length v ≤ length b → bytesAt b 0 (length v) ≡ v → Begins b v
 begins-by b v h e = record { within = omega arith; same = e }
@@ -125,30 +115,17 @@ module _ (b : List ℕ) (at id : ℕ) (v : List ℕ) (s : Stands b at (elementBy
 
 -- ---- a message
 
--- element i of a list of them
-abbrev pub idIn : List (ℕ × List ℕ) → ℕ → ℕ
-idIn es i = getD es i (0, []) .0
-
-abbrev pub valueIn : List (ℕ × List ℕ) → ℕ → List ℕ
-valueIn es i = getD es i (0, []) .1
-
--- elements whose IDs, sizes and number fit their fields
-pub record Wire (es : List (ℕ × List ℕ)) : Type 0 where
-  pub count : length es < 2 ^ 32
-  pub ids : (i : ℕ) → i < length es → idIn es i < 2 ^ 16
-  pub sizes : (i : ℕ) → i < length es → length (valueIn es i) < 2 ^ 16
-
 pub wire-nil : Wire []
 wire-nil = record { count = omega arith; ids = λ i h. absurd (omega arith); sizes = λ i h. absurd (omega arith) }
 
 pub wire-cons : (id : ℕ) (v : List ℕ) (es : List (ℕ × List ℕ)) → id < 2 ^ 16 → length v < 2 ^ 16 → suc (length es) < 2 ^ 32 → Wire es → Wire ((id, v) ∷ es)
 wire-cons id v es h l c w = record { count = c; ids = ids; sizes = sizes }
   where
-    ids : (i : ℕ) → i < suc (length es) → idIn ((id, v) ∷ es) i < 2 ^ 16
+    ids : (i : ℕ) → i < suc (length es) → nthId ((id, v) ∷ es) i < 2 ^ 16
     ids zero m = h
     ids (suc i) m = w .ids i (omega arith)
 
-    sizes : (i : ℕ) → i < suc (length es) → length (valueIn ((id, v) ∷ es) i) < 2 ^ 16
+    sizes : (i : ℕ) → i < suc (length es) → length (nthValue ((id, v) ∷ es) i) < 2 ^ 16
     sizes zero m = l
     sizes (suc i) m = w .sizes i (omega arith)
 
@@ -177,24 +154,24 @@ module _ (es : List (ℕ × List ℕ)) (b : List ℕ) (w : Wire es) (s : Begins 
 
   -- element i stands behind those before it
   module _ (i : ℕ) (h : i < length es) where
-    around : elementsBytes es ≡ elementsBytes (take i es) ++ (elementBytes (idIn es i) (valueIn es i) ++ elementsBytes (drop (suc i) es))
+    around : elementsBytes es ≡ elementsBytes (take i es) ++ (elementBytes (nthId es i) (nthValue es i) ++ elementsBytes (drop (suc i) es))
     around =
         ap elementsBytes (split-at es i (0, []) h) ∙ elements-append (take i es) (getD es i (0, []) ∷ drop (suc i) es)
-        ∙ ap (λ (x : List ℕ). elementsBytes (take i es) ++ x) (elements-parts (drop (suc i) es) (idIn es i) (valueIn es i))
+        ∙ ap (λ (x : List ℕ). elementsBytes (take i es) ++ x) (elements-parts (drop (suc i) es) (nthId es i) (nthValue es i))
 
-    placed : Stands b (4 + length (elementsBytes (take i es))) (elementBytes (idIn es i) (valueIn es i))
+    placed : Stands b (4 + length (elementsBytes (take i es))) (elementBytes (nthId es i) (nthValue es i))
     placed =
-        stands-left b (4 + length (elementsBytes (take i es))) (elementBytes (idIn es i) (valueIn es i)) (elementsBytes (drop (suc i) es))
-        (stands-right b 4 (elementsBytes (take i es)) (elementBytes (idIn es i) (valueIn es i) ++ elementsBytes (drop (suc i) es)) (subst (Stands b 4) around counted))
+        stands-left b (4 + length (elementsBytes (take i es))) (elementBytes (nthId es i) (nthValue es i)) (elementsBytes (drop (suc i) es))
+        (stands-right b 4 (elementsBytes (take i es)) (elementBytes (nthId es i) (nthValue es i) ++ elementsBytes (drop (suc i) es)) (subst (Stands b 4) around counted))
 
-    more : length (elementsBytes (take (suc i) es)) ≡ length (elementsBytes (take i es)) + 4 + length (valueIn es i)
-    more = ap (λ (x : List (ℕ × List ℕ)). length (elementsBytes x)) (take-suc es i (0, []) h) ∙ length-more (take i es) (idIn es i) (valueIn es i)
+    more : length (elementsBytes (take (suc i) es)) ≡ length (elementsBytes (take i es)) + 4 + length (nthValue es i)
+    more = ap (λ (x : List (ℕ × List ℕ)). length (elementsBytes x)) (take-suc es i (0, []) h) ∙ length-more (take i es) (nthId es i) (nthValue es i)
 
   pub message-offset : (i : ℕ) → i ≤ length es → offsetAt b i ≡ 4 + length (elementsBytes (take i es))
   message-offset zero h = sym (offset-start b) ∙ ap (λ (x : List ℕ). 4 + length x) (sym elements-nil)
   message-offset (suc i) h =
       let l : i < length es = omega arith in
-      let z : sizeAt b (4 + length (elementsBytes (take i es))) ≡ length (valueIn es i) = element-size b _ (idIn es i) (valueIn es i) (placed i l) (w .sizes i l) in
+      let z : sizeAt b (4 + length (elementsBytes (take i es))) ≡ length (nthValue es i) = element-size b _ (nthId es i) (nthValue es i) (placed i l) (w .sizes i l) in
       ap (offsetAt b) (sym (add-one i)) ∙ sym (offset-next b i (4 + length (elementsBytes (take i es))) (sym (message-offset i (omega arith))))
       ∙ omega (arith, z, more i l)
 
@@ -203,39 +180,39 @@ module _ (es : List (ℕ × List ℕ)) (b : List ℕ) (w : Wire es) (s : Begins 
   message-end = message-offset (length es) (omega arith) ∙ ap (λ (x : List (ℕ × List ℕ)). 4 + length (elementsBytes x)) (take-length es) ∙ sym (length-message es)
 
   module _ (i : ℕ) (h : i < length es) where
-    stands : Stands b (offsetAt b i) (elementBytes (idIn es i) (valueIn es i))
-    stands = subst (λ (n : ℕ). Stands b n (elementBytes (idIn es i) (valueIn es i))) (sym (message-offset i (omega arith))) (placed i h)
+    stands : Stands b (offsetAt b i) (elementBytes (nthId es i) (nthValue es i))
+    stands = subst (λ (n : ℕ). Stands b n (elementBytes (nthId es i) (nthValue es i))) (sym (message-offset i (omega arith))) (placed i h)
 
-    pub message-id : idAt b (offsetAt b i) ≡ idIn es i
-    message-id = element-id b (offsetAt b i) (idIn es i) (valueIn es i) stands (w .ids i h)
+    pub message-id : idAt b (offsetAt b i) ≡ nthId es i
+    message-id = element-id b (offsetAt b i) (nthId es i) (nthValue es i) stands (w .ids i h)
 
-    pub message-size : sizeAt b (offsetAt b i) ≡ length (valueIn es i)
-    message-size = element-size b (offsetAt b i) (idIn es i) (valueIn es i) stands (w .sizes i h)
+    pub message-size : sizeAt b (offsetAt b i) ≡ length (nthValue es i)
+    message-size = element-size b (offsetAt b i) (nthId es i) (nthValue es i) stands (w .sizes i h)
 
-    pub message-value : bytesAt b (offsetAt b i + 4) (sizeAt b (offsetAt b i)) ≡ valueIn es i
-    message-value = ap (bytesAt b (offsetAt b i + 4)) message-size ∙ element-value b (offsetAt b i) (idIn es i) (valueIn es i) stands
+    pub message-value : bytesAt b (offsetAt b i + 4) (sizeAt b (offsetAt b i)) ≡ nthValue es i
+    message-value = ap (bytesAt b (offsetAt b i + 4)) message-size ∙ element-value b (offsetAt b i) (nthId es i) (nthValue es i) stands
 
     pub message-inside : nextAt b (offsetAt b i) ≤ length b
-    message-inside = omega (arith, message-size, element-end b (offsetAt b i) (idIn es i) (valueIn es i) stands)
+    message-inside = omega (arith, message-size, element-end b (offsetAt b i) (nthId es i) (nthValue es i) stands)
 
   -- ---- judged
-  module _ (k : Context) (permitted : (i : ℕ) → i < length es → permits k (idIn es i) (kindOf (idIn es i)) ≡ true)
-      (sized : (i : ℕ) → i < length es → sizeFits (kindOf (idIn es i)) (length (valueIn es i)) ≡ true) where
-    pub message-good : ((i : ℕ) → i < length es → goodValue k (idIn es i) b (offsetAt b i + 4) ≡ true) → firstBad k b ≡ Done
-    message-good ruled = accepted-exactly k b .1 good
+  module _ (k : Context) (permitted : (i : ℕ) → i < length es → permits k (nthId es i) (kindOf (nthId es i)) ≡ true)
+      (sized : (i : ℕ) → i < length es → sizeFits (kindOf (nthId es i)) (length (nthValue es i)) ≡ true) where
+    pub message-good : ((i : ℕ) → i < length es → goodValue k (nthId es i) b (offsetAt b i + 4) ≡ true) → firstBad k b ≡ Done
+    message-good ruled = all-good k b .1 good
       where
         good : (i : ℕ) → i < countOf b → judged k b (offsetAt b i) ≡ Good (offsetAt b (i + 1))
         good i c =
             let h : i < length es = omega (arith, c, message-count) in
-            let e : offsetAt b i + 4 + length (valueIn es i) ≤ length b = omega (arith, message-inside i h, message-size i h) in
-            let n : offsetAt b i + 4 + length (valueIn es i) ≡ offsetAt b (i + 1) = ap (λ (x : ℕ). offsetAt b i + 4 + x) (sym (message-size i h)) ∙ offset-next b i (offsetAt b i) refl in
-            sym (judged-good k b (offsetAt b i) (idIn es i) (length (valueIn es i)) (kindOf (idIn es i)) (omega arith) (sym (message-id i h)) (sym (message-size i h)) refl
+            let e : offsetAt b i + 4 + length (nthValue es i) ≤ length b = omega (arith, message-inside i h, message-size i h) in
+            let n : offsetAt b i + 4 + length (nthValue es i) ≡ offsetAt b (i + 1) = ap (λ (x : ℕ). offsetAt b i + 4 + x) (sym (message-size i h)) ∙ offset-next b i (offsetAt b i) refl in
+            sym (judged-good k b (offsetAt b i) (nthId es i) (length (nthValue es i)) (kindOf (nthId es i)) (omega arith) (sym (message-id i h)) (sym (message-size i h)) refl
             true (sym (permitted i h)) refl true (sym (sized i h)) refl (omega arith) true (sym (ruled i h)) refl)
             ∙ ap Good n
 
     -- no value of a run input is bad
     pub input-good : k .usage ≡ RunInput → firstBad k b ≡ Done
-    input-good u = message-good (λ i h. value-run k (idIn es i) b (offsetAt b i + 4) u (permitted i h))
+    input-good u = message-good (λ i h. value-run k (nthId es i) b (offsetAt b i + 4) u (permitted i h))
 
 -- ---- no elements
 
@@ -308,9 +285,6 @@ one-value id v =
         message-parts ((id, v) ∷ [])
         ∙ ap (λ (x : List ℕ). digits 4 1 ++ x) (elements-parts [] id v ∙ ap (λ (x : List ℕ). elementBytes id v ++ x) elements-nil ∙ append-nil (elementBytes id v) ∙ element-parts id v ∙ sym (append-assoc (digits 2 id) (digits 2 (length v)) v))
         ∙ sym (append-assoc (digits 4 1) (digits 2 id ++ digits 2 (length v)) v)
-
-abbrev pub firstPlace : Place
-firstPlace = record { index = 0; offset = 4 }
 
 module _ (k : Context) (b : List ℕ) (id : ℕ) (v : List ℕ) (h : id < 2 ^ 16) (l : length v < 2 ^ 16) (s : Begins b (message ((id, v) ∷ []))) where
   one-count : countOf b ≡ 1

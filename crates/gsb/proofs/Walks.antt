@@ -58,6 +58,9 @@ module _ (judge : ℕ → Verdict) (count i at : ℕ) (w : Walked) where
   pub turn-end : w ≡ walk judge (count - i) i at → count ≤ i → Done ≡ w
   turn-end e h = sym (e ∙ walk-end judge count i at h)
 
+pub walk-start : (judge : ℕ → Verdict) (count : ℕ) → walk judge count 0 4 ≡ walk judge (count - 0) 0 4
+walk-start judge count = let z : count ≡ count - 0 = omega arith in ap (λ (n : ℕ). walk judge n 0 4) z
+
 pub first-start : (k : Context) (b : List ℕ) (count : ℕ) → count ≡ countOf b → firstBad k b ≡ walk (judged k b) (count - 0) 0 4
 unfolding firstBad
 first-start k b count e =

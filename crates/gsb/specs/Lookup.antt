@@ -1,6 +1,8 @@
 -- 01, "The guest state buffer": "The lookup names an ID, and gives back the value part, in the caller's own buffer, of the last
 -- counted element with it."
-use Prim.Native.Nat.{ℕ, zero, suc, _+_, _≤_}
+use Prim.Native.Nat.{ℕ, zero, suc, _+_, _≤_, _<_}
+use mathlib.Core.Path.{_≡_}
+use mathlib.Core.Logic.{_≢_}
 use mathlib.Core.Bool.{cond}
 use mathlib.Core.List.{List, [], _∷_}
 use lib.Dec.{ltb, eqb}
@@ -55,3 +57,14 @@ lookedUp b id =
 -- the part itself
 abbrev pub valueOf : List ℕ → ℕ → List ℕ
 valueOf b id = bytesAt b (lookedUp b id .at) (lookedUp b id .len)
+
+-- ---- words of what is promised of it
+-- "if no counted element has the ID": one that has it
+pub record Counted (b : List ℕ) (id i : ℕ) : Type 0 where
+  pub counted : i < countOf b
+  pub named : idAt b (offsetAt b i) ≡ id
+
+-- "the last counted element with it"
+pub record LastAt (b : List ℕ) (id i : ℕ) : Type 0 where
+  pub here : Counted b id i
+  pub after : (j : ℕ) → i < j → j < countOf b → idAt b (offsetAt b j) ≢ id

@@ -4,12 +4,12 @@ use super::Walked;
 use super::judge;
 use answer::Bad;
 use answer::Place;
+use elements::is_register;
 use octets::get_turned;
 use octets::get32;
 use rules::Context;
 use rules::Usage;
 use rules::of_thread;
-use rules::within;
 ghost use mathlib.Core.Path.{_≡_};
 ghost use Prim.Native.Nat.{_+_, _≤_, _<_};
 ghost use lib.ListN.{length};
@@ -46,8 +46,8 @@ fn quick(b: &[u8], at: usize, room: usize) -> Verdict
     if room < at + 12 {
         return Verdict::Faulty(Bad::Size);
     }
-    let key = get_turned(b, at) as u64;
-    if within(0x8_1000, 0x8_1053, key) {
+    let key = get_turned(b, at) as usize;
+    if is_register(8, key) {
         if key == 0x8_103A {
             return Verdict::Faulty(Bad::Size);
         }
@@ -56,10 +56,10 @@ fn quick(b: &[u8], at: usize, room: usize) -> Verdict
     if key == 0 {
         return Verdict::Good(at + 4);
     }
-    if within(0x10_3000, 0x10_303F, key) & (at + 20 <= room) {
+    if is_register(16, key) & (at + 20 <= room) {
         return Verdict::Good(at + 20);
     }
-    if within(0x4_2000, 0x4_200E, key) {
+    if is_register(4, key) {
         return Verdict::Good(at + 8);
     }
     Verdict::Faulty(Bad::Size)

@@ -9,8 +9,8 @@ use native.Mathlib.Omega.{arith}
 use lib.Dec.{eqb, leb}
 use lib.ListN.{length}
 use borrow.Author.Tests.{eqb-false, leb-true, not-true}
-use Rattle.octets.specs.Bytes.{bytesAt, put}
-use Rattle.octets.proofs.Bytes.{Clear, left, right, clear-sym, length-bytesAt, read-back, read-other}
+use Rattle.octets.specs.Bytes.{bytesAt, put, Clear, left, right}
+use Rattle.octets.proofs.Bytes.{clear-sym, length-bytesAt, read-back, read-other}
 use Rattle.elements.specs.declared.Scope.the-variants.{Thread}
 use Rattle.rules.specs.declared.Usage.{Usage}
 use Rattle.rules.specs.declared.Usage.the-variants.{ThreadGet, ThreadSet, RunInput}

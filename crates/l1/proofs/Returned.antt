@@ -13,9 +13,9 @@ use Rattle.elements.specs.declared.Kind.{Kind}
 use Rattle.elements.specs.Table.{table, below, position, kindOf, numberOf, numbered, threadElement}
 use Rattle.elements.proofs.Table.{listed-stored, thread-stored}
 use Rattle.gsb.specs.Walk.{countOf, idAt, sizeAt, offsetAt}
-use Rattle.gsb.specs.Message.{message}
+use Rattle.gsb.specs.Message.{message, Begins, nthId, nthValue, Wire}
 use Rattle.gsb.proofs.Messages.{length-message}
-use Rattle.gsb.proofs.RoundTrip.{Begins, idIn, valueIn, Wire, wire-nil, wire-cons, listed-fits, message-count, message-id, message-size, message-inside}
+use Rattle.gsb.proofs.RoundTrip.{wire-nil, wire-cons, listed-fits, message-count, message-id, message-size, message-inside}
 use Rattle.store.proofs.Search.{both}
 use Rattle.transfer.specs.Transfer.{Fits, Moves, Ready, AllReady}
 use Rattle.exits.specs.Exits.{exits, rowOf, returned, elementOf, valued}
@@ -62,13 +62,13 @@ pub returned-named : (exit : ℕ) → AllNamed (returned exit)
 returned-named exit = all-named (returned exit) (row-named exits exit rows-named)
 
 -- ---- the output as it is read
-pub valued-id : (base : ℕ) (s ids : List ℕ) (i : ℕ) → i < length ids → idIn (valued base s ids) i ≡ getD ids i 0
+pub valued-id : (base : ℕ) (s ids : List ℕ) (i : ℕ) → i < length ids → nthId (valued base s ids) i ≡ getD ids i 0
 unfolding valued
 valued-id base s [] i h = absurd (omega arith)
 valued-id base s (id ∷ ids) zero h = refl
 valued-id base s (id ∷ ids) (suc i) h = valued-id base s ids i (omega arith)
 
-valued-value : (base : ℕ) (s ids : List ℕ) (i : ℕ) → i < length ids → valueIn (valued base s ids) i ≡ valueOf base s (getD ids i 0)
+valued-value : (base : ℕ) (s ids : List ℕ) (i : ℕ) → i < length ids → nthValue (valued base s ids) i ≡ valueOf base s (getD ids i 0)
 unfolding valued
 valued-value base s [] i h = absurd (omega arith)
 valued-value base s (id ∷ ids) zero h = refl

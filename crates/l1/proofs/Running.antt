@@ -18,9 +18,9 @@ use Rattle.elements.specs.Table.{threadElement}
 use Rattle.gsb.specs.declared.Walked.{Walked}
 use Rattle.gsb.specs.declared.Walked.the-variants.{Done}
 use Rattle.gsb.specs.Walk.{countOf, firstBad}
-use Rattle.gsb.specs.Message.{message}
+use Rattle.gsb.specs.Message.{message, Begins}
 use Rattle.gsb.proofs.Messages.{length-message}
-use Rattle.gsb.proofs.RoundTrip.{Begins, begins-put, begins-first}
+use Rattle.gsb.proofs.RoundTrip.{begins-put, begins-first}
 use Rattle.store.specs.Layout.{small, slotBytes}
 use Rattle.store.specs.Search.{every}
 use Rattle.store.proofs.Search.{both, every-at}
@@ -39,12 +39,12 @@ use Rattle.run.specs.Run.{inputSize, exitTests, runTargetTests, inputOf, conten
 use Rattle.admission.proofs.Judging.{begin-admitted, all-refused, all-admitted, judged-passed}
 use Rattle.run.proofs.Runs.{RunFound, run-found}
 use Rattle.l1.specs.Marks.{Cache, valid, changed, isInput, markGood, goodCache}
-use Rattle.l1.specs.Cache.{chosen, pending, refreshed, RunOutcome, ranWith, runCache}
+use Rattle.l1.specs.Cache.{chosen, pending, refreshed, RunOutcome, ranWith, runCache, Fit}
 use Rattle.l1.specs.Private.{isChanged}
 use Rattle.l1.proofs.Marking.{values-long, marks-long}
 use Rattle.l1.proofs.Pending.{weighed}
 use Rattle.l1.proofs.Cells.{number-named, length-value}
-use Rattle.l1.proofs.Sent.{Fit, fit-append, fit-good}
+use Rattle.l1.proofs.Sent.{fit-append, fit-good}
 use Rattle.l1.proofs.Returned.{returned-named, valued-ready}
 
 -- ---- what a good cache sends

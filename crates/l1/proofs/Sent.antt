@@ -11,16 +11,12 @@ use Rattle.rules.specs.declared.Usage.the-variants.{RunInput}
 use Rattle.rules.specs.declared.Context.{Context}
 use Rattle.gsb.specs.declared.Walked.the-variants.{Done}
 use Rattle.gsb.specs.Walk.{firstBad}
-use Rattle.gsb.specs.Message.{message}
-use Rattle.gsb.proofs.RoundTrip.{Begins, idIn, valueIn, Wire, wire-nil, wire-cons, listed-fits, input-good}
+use Rattle.gsb.specs.Message.{message, Begins, nthId, nthValue, Wire}
+use Rattle.gsb.proofs.RoundTrip.{wire-nil, wire-cons, listed-fits, input-good}
 use Rattle.exits.specs.Exits.{elementOf}
 use Rattle.l1.specs.Marks.{allowed, isInput}
+use Rattle.l1.specs.Cache.{Fit}
 use Rattle.l1.proofs.Cells.{element-size, named-fits, allowed-as, input-named, input-allowed}
-
--- each names an element that a run input takes, with a value of its size
-abbrev pub Fit : List (ℕ × List ℕ) → Type 0
-Fit [] = Unit {0}
-Fit (w ∷ ws) = (isInput (w .0) ≡ true) × (length (w .1) ≡ elementOf (w .0) .size) × Fit ws
 
 pub fit-append : (xs ys : List (ℕ × List ℕ)) → Fit xs → Fit ys → Fit (xs ++ ys)
 fit-append [] ys f h = h
@@ -34,7 +30,7 @@ fit-wire (e ∷ es) f h =
     let k = listed-fits (e .0) (t .entry) (e .1) (t .listed) (f .1 ∙ element-size (e .0) t) in
     wire-cons (e .0) (e .1) es (k .0) (k .1) (omega arith) (fit-wire es (f .2) (omega arith))
 
-fit-at : (es : List (ℕ × List ℕ)) → Fit es → (i : ℕ) → i < length es → (isInput (idIn es i) ≡ true) × (length (valueIn es i) ≡ elementOf (idIn es i) .size)
+fit-at : (es : List (ℕ × List ℕ)) → Fit es → (i : ℕ) → i < length es → (isInput (nthId es i) ≡ true) × (length (nthValue es i) ≡ elementOf (nthId es i) .size)
 fit-at [] f i h = absurd (not-suc-le-zero h)
 fit-at (e ∷ es) f zero h = (f .0, f .1)
 fit-at (e ∷ es) f (suc i) h = fit-at es (f .2) i (le-of-suc-le-suc h)
@@ -42,5 +38,5 @@ fit-at (e ∷ es) f (suc i) h = fit-at es (f .2) i (le-of-suc-le-suc h)
 pub fit-good : (k : Context) → k .usage ≡ RunInput → (es : List (ℕ × List ℕ)) (b : List ℕ) → Fit es → length es ≤ 170 → Begins b (message es) → firstBad k b ≡ Done
 fit-good k u es b f h s =
     input-good es b (fit-wire es f h) s k
-    (λ i c. allowed-as k (idIn es i) ∙ ap (λ (x : _). allowed x (idIn es i)) u ∙ input-allowed (idIn es i) (fit-at es f i c .0))
-    (λ i c. let q = fit-at es f i c in named-fits (idIn es i) (input-named (idIn es i) (q .0)) (length (valueIn es i)) ∙ eq-eqb _ _ (q .1)) u
+    (λ i c. allowed-as k (nthId es i) ∙ ap (λ (x : _). allowed x (nthId es i)) u ∙ input-allowed (nthId es i) (fit-at es f i c .0))
+    (λ i c. let q = fit-at es f i c in named-fits (nthId es i) (input-named (nthId es i) (q .0)) (length (nthValue es i)) ∙ eq-eqb _ _ (q .1)) u

@@ -21,9 +21,10 @@ use Rattle.elements.specs.declared.Entry.{Entry}
 use Rattle.elements.specs.declared.Kind.the-variants.{Nop, Listed}
 use Rattle.elements.specs.declared.Element.{Element as Thing}
 use Rattle.elements.specs.Table.{table, position, kindOf, numberOf, numbered, threadElement}
-use Rattle.rules.specs.Rules.{allows}
-use Rattle.elements.proofs.Table.{table-right, past, nop-zero, number-lt, number-mono, Numbered, element-number, position-end, thread-stored, size-bound}
-use Rattle.rules.proofs.Rules.{scopeFor, permits-cases, allows-scope}
+use Rattle.rules.specs.Rules.{allows, scopeFor}
+use Rattle.elements.specs.Right.{past}
+use Rattle.elements.proofs.Table.{table-right, nop-zero, number-lt, number-mono, Numbered, element-number, position-end, thread-stored, size-bound}
+use Rattle.rules.proofs.Rules.{permits-cases, allows-scope}
 use Rattle.exits.specs.Exits.{elementOf}
 use Rattle.store.proofs.Search.{both, no-bool}
 use Rattle.admission.specs.declared.Admission.{Admission}

@@ -1,6 +1,7 @@
 -- 01, "The L1 cache": its write, read and run, each with its refusals in order.
 use Prim.Native.Nat.{ℕ, zero, suc, _+_}
-use mathlib.Core.Bool.{Bool, not, cond}
+use mathlib.Core.Path.{_≡_}
+use mathlib.Core.Bool.{Bool, true, not, cond}
 use mathlib.Core.List.{List, [], _∷_, _++_}
 use lib.Dec.{eqb, ltb}
 use lib.ListN.{length}
@@ -86,6 +87,15 @@ pub record RunOutcome : Type 0 where
 unfoldable pub chosen : (ℕ → Bool) → ℕ → List ℕ
 chosen p zero = []
 chosen p (suc n) = chosen p n ++ cond (p n) (threadElement n .id ∷ []) []
+
+-- "All 164 changed": the thread elements that are permitted in a run input
+abbrev pub inputs : List ℕ
+inputs = chosen (λ e. isInput (threadElement e .id)) 170
+
+-- "permitted in a run input", of the listed size: elements that a run takes, each its ID and its value
+abbrev pub Fit : List (ℕ × List ℕ) → Type 0
+Fit [] = Unit {0}
+Fit (e ∷ es) = (isInput (e .0) ≡ true) × (length (e .1) ≡ elementOf (e .0) .size) × Fit es
 
 abbrev pub pending : Cache → List (ℕ × List ℕ)
 pending c = valued 0 (c .values) (chosen (changed c) 170)

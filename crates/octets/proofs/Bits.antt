@@ -11,9 +11,9 @@ use lib.Dec.{lit<, lit≤}
 use lib.ListN.{length, getD, set, length-set}
 use lib.Seq.{getD-set-same, getD-set-other, set-getD, set-set, set-out}
 use lib.Pow.{pow-pos, pow-add, shr-shr, mod-pow-add, mod-mod-pow, field, high, low, split}
-use Rattle.octets.specs.Bytes.{bytesAt, put, be, digits}
+use Rattle.octets.specs.Bytes.{bytesAt, put, be, digits, Clear, left, right}
 use Rattle.octets.specs.Bits.{bit, bits, ins, setBit, putBits}
-use Rattle.octets.proofs.Bytes.{Clear, left, right, length-put, put-nil, put-one, put-append, put-inside, getD-bytesAt, getD-put-other}
+use Rattle.octets.proofs.Bytes.{length-put, put-nil, put-one, put-append, put-inside, getD-bytesAt, getD-put-other}
 use Rattle.octets.proofs.Numbers.{length-digits, be-ext}
 
 -- ---- reading

@@ -1,19 +1,14 @@
 -- The laws of `bytesAt` and `put`, over offset and length. Nothing else opens them. Assumes nothing.
 use mathlib.Core.Path.{_≡_, refl, sym, ap, _∙_}
 use mathlib.Core.Logic.{_≢_}
-use Prim.Native.Nat.{ℕ, zero, suc, _+_, _-_, _≤_, _<_}
+use Prim.Native.Nat.{ℕ, zero, suc, _+_, _-_, min, _≤_, _<_}
 use native.Mathlib.Nat.{suc-inj, suc-ne-zero, add-zero}
 use native.Mathlib.Omega.{arith}
 use native.Mathlib.Decide.{decLt}
 use mathlib.Core.List.{List, [], _∷_, _++_, append-assoc}
-use lib.ListN.{length, getD, set, take, drop, length-drop, length-replicate, replicate-append-replicate, drop-of-length-le}
-use lib.Seq.{sets, length-sets, sets-eq, set-comm, set-set, set-getD, drop-set-lt, drop-set-add, take-set-le, take-set-lt, take-at, drop-at, take-add, take-take, take-length, length-take-le, drop-drop, drop-cons, getD-take, getD-drop, getD-set-other}
-use Rattle.octets.specs.Bytes.{bytesAt, put, zeros}
-
--- two parts that don't overlap: data, so that the places are found by inference
-pub data Clear (i n j m : ℕ) : Type 0 where
-  left : i + n ≤ j → Clear i n j m
-  right : j + m ≤ i → Clear i n j m
+use lib.ListN.{length, getD, set, take, drop, length-take, length-drop, length-replicate, replicate-append-replicate, drop-of-length-le}
+use lib.Seq.{sets, length-sets, sets-eq, set-comm, set-set, set-getD, drop-set-lt, drop-set-add, take-set-le, take-set-lt, take-at, drop-at, take-add, take-take, take-length, length-take-le, drop-drop, drop-cons, getD-take, getD-drop, getD-set-other, ext-getD}
+use Rattle.octets.specs.Bytes.{bytesAt, put, zeros, Clear, left, right}
 
 pub clear-sym : {i n j m : ℕ} → Clear i n j m → Clear j m i n
 clear-sym (left h) = right h
@@ -86,6 +81,16 @@ part-of-part s i n j m h = part-take (drop i s) n j m h ∙ ap (λ (l : List ℕ
 pub getD-bytesAt : (s : List ℕ) (i n k : ℕ) → k < n → getD (bytesAt s i n) k 0 ≡ getD s (i + k) 0
 unfolding bytesAt
 getD-bytesAt s i n k h = getD-take n (drop i s) k 0 h ∙ getD-drop i s k 0
+
+length-part : (s : List ℕ) (i n : ℕ) → length (bytesAt s i n) ≡ min n (length s - i)
+unfolding bytesAt
+length-part s i n = length-take n (drop i s) ∙ ap (min n) (length-drop i s)
+
+-- the same part of two lists that are as long, byte by byte
+pub part-ext : (s t : List ℕ) (i n : ℕ) → length s ≡ length t → ((k : ℕ) → k < n → getD s (i + k) 0 ≡ getD t (i + k) 0) → bytesAt s i n ≡ bytesAt t i n
+part-ext s t i n e h =
+    ext-getD 0 (bytesAt s i n) (bytesAt t i n) (length-part s i n ∙ ap (λ (m : ℕ). min n (m - i)) e ∙ sym (length-part t i n))
+    (λ k l. let m : k < n = omega (arith, length-part s i n) in getD-bytesAt s i n k m ∙ h k m ∙ sym (getD-bytesAt t i n k m))
 
 -- ---- writes
 
@@ -225,11 +230,6 @@ module _ (d : List ℕ) (to : ℕ) (s : List ℕ) (from : ℕ) where
       → y ≡ put x (to + j) (bytesAt s (from + j) m) → y ≡ put d to (bytesAt s from (j + m))
   copy-part x j y m p h q = q ∙ ap (λ (l : List ℕ). put l (to + j) (bytesAt s (from + j) m)) p ∙ put-part d to s from j m h
 
-  -- two pieces of 8
-  pub copy-two : (x y : List ℕ) → x ≡ put d to (bytesAt s from 8) → y ≡ put x (to + 8) (bytesAt s (from + 8) 8) → from + 16 ≤ length s
-      → y ≡ put d to (bytesAt s from 16)
-  copy-two x y p q h = copy-part x 8 y 8 p (omega arith) q
-
   -- three pieces, of i, of j and of what is left
   pub copy-pieces : (x y z : List ℕ) (i j n : ℕ) → x ≡ put d to (bytesAt s from i) → y ≡ put x (to + i) (bytesAt s (from + i) j)
       → z ≡ put y (to + (i + j)) (bytesAt s (from + (i + j)) (n - (i + j))) → i ≤ n → j ≤ n - i → from + n ≤ length s
@@ -247,11 +247,6 @@ module _ (d : List ℕ) (to : ℕ) (s : List ℕ) (from : ℕ) where
   copy-all x j n p l h =
       let e : j ≡ n = omega arith in
       p ∙ ap (λ (k : ℕ). put d to (bytesAt s from k)) e
-
--- a copy whose size n turns out to be m
-pub copy-known : (m : ℕ) (d : List ℕ) (to : ℕ) (s : List ℕ) (from n : ℕ) (y : List ℕ) → n ≡ m → y ≡ put d to (bytesAt s from m)
-    → y ≡ put d to (bytesAt s from n)
-copy-known m d to s from n y e p = p ∙ ap (λ (k : ℕ). put d to (bytesAt s from k)) (sym e)
 
 module _ (d : List ℕ) (at : ℕ) where
   pub zeros-none : d ≡ put d at (zeros 0)

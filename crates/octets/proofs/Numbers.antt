@@ -11,8 +11,8 @@ use mir.Val.{Fits}
 use lib.Arith as A
 use lib.ListN.{length, getD, set, length-append, List·getD-append}
 use lib.Seq.{getD-at}
-use Rattle.octets.specs.Bytes.{bytesAt, put, be, digits}
-use Rattle.octets.proofs.Bytes.{Clear, clear-part, part-none, part-one, part-append, getD-bytesAt, getD-put-other, getD-put-same, put-one, put-append, copy-part}
+use Rattle.octets.specs.Bytes.{bytesAt, put, be, digits, Clear}
+use Rattle.octets.proofs.Bytes.{clear-part, part-none, part-one, part-append, getD-bytesAt, getD-put-other, getD-put-same, put-one, put-append, copy-part}
 
 pow-pos : (n : ℕ) → 0 < 256 ^ n
 pow-pos n = one-le-pow n 256 (omega arith)
@@ -211,3 +211,16 @@ pub copy-number-more : (d : List ℕ) (to : ℕ) (s : List ℕ) (from i m n v : 
     → y ≡ put x (to + i) (digits m v) → y ≡ put d to (bytesAt s from (i + m))
 copy-number-more d to s from i m n v x y b l r h e p q =
     copy-part d to s from x i y m e (omega arith) (copy-number x (to + i) s (from + i) m (n - i) v y b r (omega arith) p q)
+
+-- all n, where n is known to be m, or twice m
+pub copy-whole : (m : ℕ) (d : List ℕ) (to : ℕ) (s : List ℕ) (from n v : ℕ) (y : List ℕ) → ((k : ℕ) → Fits w8 (getD s k 0)) → n ≡ m
+    → from + n ≤ length s → v ≡ be s from m → y ≡ put d to (digits m v) → y ≡ put d to (bytesAt s from n)
+copy-whole m d to s from n v y b e h p q =
+    copy-number d to s from m n v y b (omega arith) h p q ∙ ap (λ (k : ℕ). put d to (bytesAt s from k)) (sym e)
+
+pub copy-twice : (m : ℕ) (d : List ℕ) (to : ℕ) (s : List ℕ) (from n v w : ℕ) (x y : List ℕ) → ((k : ℕ) → Fits w8 (getD s k 0)) → n ≡ m + m
+    → from + n ≤ length s → v ≡ be s from m → x ≡ put d to (digits m v) → w ≡ be s (from + m) m → y ≡ put x (to + m) (digits m w)
+    → y ≡ put d to (bytesAt s from n)
+copy-twice m d to s from n v w x y b e h p q f g =
+    copy-number-more d to s from m m n w x y b (omega arith) (omega arith) h (copy-number d to s from m n v x b (omega arith) h p q) f g
+    ∙ ap (λ (k : ℕ). put d to (bytesAt s from k)) (sym e)

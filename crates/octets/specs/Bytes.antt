@@ -1,6 +1,6 @@
 -- A store or a buffer is the list of its bytes: a part read, a part written, and the big-endian numbers between.
 -- Only the laws of `proofs/` open these.
-use Prim.Native.Nat.{ℕ, zero, suc, _+_, _*_, _/_, _%_}
+use Prim.Native.Nat.{ℕ, zero, suc, _+_, _*_, _/_, _%_, _≤_}
 use mathlib.Core.List.{List, [], _∷_, _++_}
 use lib.ListN.{getD, take, drop, replicate}
 use lib.Seq.{sets}
@@ -26,3 +26,9 @@ digits (suc n) v = digits n (v / 256) ++ (v % 256 ∷ [])
 -- n bytes of zero
 unfoldable pub zeros : ℕ → List ℕ
 zeros n = replicate n 0
+
+-- Demand 2: "changes only the elements named": what lies beside them. The n bytes from i on and the m bytes from j on have none in common;
+-- data, so that the places are found by inference
+pub data Clear (i n j m : ℕ) : Type 0 where
+  left : i + n ≤ j → Clear i n j m
+  right : j + m ≤ i → Clear i n j m

@@ -56,29 +56,6 @@ fn copy_any(src: &[u8], from: usize, dst: &mut [u8], to: usize, n: usize)
     copy_bytes(src, from + j, dst, to + j, n - j);
 }
 
-// Half a word, one word and two: copies of a known size.
-fn copy4(src: &[u8], from: usize, dst: &mut [u8], to: usize)
-    requires { ⌜ (from + 4 ≤ length (now src)) × (to + 4 ≤ length (now dst)) ⌝ }
-    ensures { λ r. ⌜ now (dst .exit) ≡ put (now (dst .entry)) to (bytesAt (now (src .entry)) from 4) ⌝ }
-{
-    put32(dst, to, get32(src, from));
-}
-
-fn copy8(src: &[u8], from: usize, dst: &mut [u8], to: usize)
-    requires { ⌜ (from + 8 ≤ length (now src)) × (to + 8 ≤ length (now dst)) ⌝ }
-    ensures { λ r. ⌜ now (dst .exit) ≡ put (now (dst .entry)) to (bytesAt (now (src .entry)) from 8) ⌝ }
-{
-    put64(dst, to, get64(src, from));
-}
-
-fn copy16(src: &[u8], from: usize, dst: &mut [u8], to: usize)
-    requires { ⌜ (from + 16 ≤ length (now src)) × (to + 16 ≤ length (now dst)) ⌝ }
-    ensures { λ r. ⌜ now (dst .exit) ≡ put (now (dst .entry)) to (bytesAt (now (src .entry)) from 16) ⌝ }
-{
-    copy8(src, from, dst, to);
-    copy8(src, from + 8, dst, to + 8);
-}
-
 // The sizes of nearly all values come first and without a loop, so that this stands in line in a walk, where the size is
 // known.
 pub fn copy(src: &[u8], from: usize, dst: &mut [u8], to: usize, n: usize)
@@ -86,13 +63,14 @@ pub fn copy(src: &[u8], from: usize, dst: &mut [u8], to: usize, n: usize)
     ensures { λ r. ⌜ now (dst .exit) ≡ put (now (dst .entry)) to (bytesAt (now (src .entry)) from n) ⌝ }
 {
     if n == 8 {
-        return copy8(src, from, dst, to);
+        return put64(dst, to, get64(src, from));
     }
     if n == 16 {
-        return copy16(src, from, dst, to);
+        put64(dst, to, get64(src, from));
+        return put64(dst, to + 8, get64(src, from + 8));
     }
     if n == 4 {
-        return copy4(src, from, dst, to);
+        return put32(dst, to, get32(src, from));
     }
     copy_any(src, from, dst, to, n)
 }

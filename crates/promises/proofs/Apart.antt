@@ -11,9 +11,9 @@ use lib.Dec.{eqb, leb, ltb}
 use lib.ListN.{length}
 use lib.Seq.{ext-getD}
 use borrow.Author.Tests.{eq-eqb, ne-eqb, lt-ltb, leb-true, eqb-true, ltb-true, ltb-false, not-true, not-false}
-use Rattle.octets.specs.Bytes.{bytesAt, put, be, zeros}
+use Rattle.octets.specs.Bytes.{bytesAt, put, be, zeros, Clear, left, right}
 use Rattle.octets.specs.Bits.{bit, bits, putBits}
-use Rattle.octets.proofs.Bytes.{Clear, left, right, clear-sym, clear-part, length-put, length-bytesAt, length-zeros, whole, part-append, getD-bytesAt, put-inside, put-comm, put-same, read-back, read-other}
+use Rattle.octets.proofs.Bytes.{clear-sym, clear-part, length-put, length-bytesAt, length-zeros, whole, part-append, getD-bytesAt, put-inside, put-comm, put-same, read-back, read-other}
 use Rattle.octets.proofs.Numbers.{be-other}
 use Rattle.octets.proofs.Bits.{length-putBits, front-putBits, getD-putBits}
 use Rattle.answer.specs.declared.Fault.{Fault}
@@ -27,14 +27,15 @@ use Rattle.elements.specs.declared.Kind.the-variants.{Unlisted, Nop, Listed}
 use Rattle.rules.specs.declared.Usage.the-variants.{RunInput, Effect as InEffect}
 use Rattle.rules.specs.declared.Context.{Context}
 use Rattle.elements.specs.Table.{table, below, position, kindOf, numberOf}
-use Rattle.rules.specs.Rules.{permits, sizeFits}
-use Rattle.elements.proofs.Table.{bytesOf, position-end, source-stored}
-use Rattle.rules.proofs.Rules.{size-listed, permits-scope, scopeFor}
+use Rattle.rules.specs.Rules.{permits, sizeFits, scopeFor}
+use Rattle.elements.specs.Right.{bytesOf}
+use Rattle.elements.proofs.Table.{position-end, source-stored}
+use Rattle.rules.proofs.Rules.{size-listed, permits-scope}
 use Rattle.gsb.specs.declared.Walked.the-variants.{Done}
 use Rattle.gsb.specs.Message.{message}
 use Rattle.gsb.specs.Walk.{countOf, idAt, sizeAt, offsetAt, firstBad}
 use Rattle.gsb.proofs.Judged.{GoodElement, good-element}
-use Rattle.gsb.proofs.First.{accepted-exactly}
+use Rattle.gsb.proofs.First.{all-good}
 use Rattle.store.specs.declared.Layout.{Layout}
 use Rattle.store.specs.Layout.{Sound, small, guestBytes, slotBytes, guestAt, slotAt}
 use Rattle.store.specs.Search.{every, first}
@@ -129,7 +130,7 @@ field-write s a n v m q w inside from upto = halves (putBits (put s q w) a n v) 
 -- an accepted buffer, and values at base that a write into q.. does not meet
 module _ (k : Context) (base : ℕ) (b : List ℕ) (d : firstBad k b ≡ Done) (q : ℕ) (w : List ℕ) (c : Clear base (bytesOf (scopeFor (k .usage))) q (length w)) where
   good : (i : ℕ) → i < countOf b → GoodElement k b (offsetAt b i)
-  good i h = good-element k b (offsetAt b i) (offsetAt b (i + 1)) (accepted-exactly k b .0 d i h) .0
+  good i h = good-element k b (offsetAt b i) (offsetAt b (i + 1)) (all-good k b .0 d i h) .0
 
   -- a counted element's value lies among those at base
   element-apart : (i : ℕ) → i < countOf b → (x : Entry) (p : ℕ) → kindOf (idAt b (offsetAt b i)) ≡ Listed x → x .source ≡ Stored p → Clear (base + p) (x .size) q (length w)

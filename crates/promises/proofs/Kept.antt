@@ -6,6 +6,7 @@ use Prim.Native.Nat.{ℕ, zero, suc, _+_, _≤_}
 use native.Mathlib.Omega.{arith}
 use lib.Dec.{eqb}
 use borrow.Author.Tests.{eqb-true, ltb-true, ltb-false, not-false}
+use Rattle.answer.specs.declared.Call.{Call as Name}
 use Rattle.answer.specs.declared.Fault.{Fault}
 use Rattle.answer.specs.declared.Fault.the-variants.{None}
 use Rattle.store.specs.declared.Layout.{Layout}
@@ -31,7 +32,9 @@ use Rattle.admission.specs.Target.{baseOf}
 use Rattle.state.specs.State.{getState, setState}
 use Rattle.run.specs.Run.{inputOf, runVcpu, ran, ranStore}
 use Rattle.admission.proofs.Judging.{each-way}
+use Rattle.promises.specs.History.{nameOf}
 use Rattle.promises.specs.Promised.{Unchanged, lent}
+use Rattle.promises.proofs.Told.{refused-fault}
 
 -- P of a call, from each refusal and from what it does where no test holds
 pub decided : (P : Outcome → Type 0) (s b : List ℕ) (tests : List (Bool × Fault)) (o : Outcome) → ((f : Fault) → P (refuse s b f)) → (Passed tests → P o) → P (decide s b tests o)
@@ -39,28 +42,31 @@ unfolding decide
 decided P s b tests o r g = each-way P (refuse s b) tests o r g
 
 -- ---- a refusal changes nothing
-kept : (s b : List ℕ) (f : Fault) → Unchanged s b (refuse s b f)
-kept s b f = record { store = λ n. refl; buffer = λ n. refl }
+kept : (c : Name) (s b : List ℕ) (f : Fault) → Unchanged c s b (refuse s b f)
+kept c s b f = record { store = λ n. refl; buffer = λ n. refl }
 
 -- an accepted call is none
-done : (s b : List ℕ) (o : Outcome) → o .answer .fault ≡ None → Unchanged s b o
-done s b o e = record { store = λ n. absurd (n e); buffer = λ n. absurd (n e) }
+done : (c : Name) (s b : List ℕ) (o : Outcome) → o .answer .fault ≡ None → Unchanged c s b o
+done c s b o e = record { store = λ n. absurd (refused-fault c (o .answer) n e); buffer = λ n. absurd (refused-fault c (o .answer) n e) }
 
-pub refused-unchanged : (l : Layout) (s : List ℕ) (c : Call) → Unchanged s (lent c) (outcome l s c)
+settled : (c : Name) (s b : List ℕ) (tests : List (Bool × Fault)) (o : Outcome) → (Passed tests → o .answer .fault ≡ None) → Unchanged c s b (decide s b tests o)
+settled c s b tests o e = decided (Unchanged c s b) s b tests o (kept c s b) (λ p. done c s b o (e p))
+
+pub refused-unchanged : (l : Layout) (s : List ℕ) (c : Call) → Unchanged (nameOf c) s (lent c) (outcome l s c)
 unfolding outcome getCapabilities setCapabilities createGuest createVcpu getState setState runVcpu ran deleteGuest guestClock
-refused-unchanged l s (GetCapabilities flags) = decided (Unchanged s []) s [] _ _ (kept s []) (λ p. done s [] _ refl)
-refused-unchanged l s (SetCapabilities flags bitmap) = decided (Unchanged s []) s [] _ _ (kept s []) (λ p. done s [] _ refl)
-refused-unchanged l s (CreateGuest flags token) = decided (Unchanged s []) s [] _ _ (kept s []) (λ p. done s [] _ refl)
-refused-unchanged l s (CreateVcpu flags guest vcpu) = decided (Unchanged s []) s [] _ _ (kept s []) (λ p. done s [] _ refl)
-refused-unchanged l s (GetState flags guest vcpu buffer) = decided (Unchanged s buffer) s buffer _ _ (kept s buffer) (λ p. done s buffer _ refl)
-refused-unchanged l s (SetState flags guest vcpu buffer) = decided (Unchanged s []) s [] _ _ (kept s []) (λ p. done s [] _ refl)
-refused-unchanged l s (RunVcpu flags guest vcpu input output effect exit) = decided (Unchanged s output) s output _ _ (kept s output) (λ p. done s output _ refl)
-refused-unchanged l s (DeleteGuest flags guest) = decided (Unchanged s []) s [] _ _ (kept s []) (λ p. done s [] _ refl)
-refused-unchanged l s (GuestClock guest timebase) = decided (Unchanged s []) s [] _ _ (kept s []) (λ p. done s [] _ refl)
+refused-unchanged l s (GetCapabilities flags) = settled Name.GetCapabilities s [] _ _ (λ p. refl)
+refused-unchanged l s (SetCapabilities flags bitmap) = settled Name.SetCapabilities s [] _ _ (λ p. refl)
+refused-unchanged l s (CreateGuest flags token) = settled Name.CreateGuest s [] _ _ (λ p. refl)
+refused-unchanged l s (CreateVcpu flags guest vcpu) = settled Name.CreateVcpu s [] _ _ (λ p. refl)
+refused-unchanged l s (GetState flags guest vcpu buffer) = settled Name.GetState s buffer _ _ (λ p. refl)
+refused-unchanged l s (SetState flags guest vcpu buffer) = settled Name.SetState s [] _ _ (λ p. refl)
+refused-unchanged l s (RunVcpu flags guest vcpu input output effect exit) = settled Name.RunVcpu s output _ _ (λ p. refl)
+refused-unchanged l s (DeleteGuest flags guest) = settled Name.DeleteGuest s [] _ _ (λ p. refl)
+refused-unchanged l s (GuestClock guest timebase) = settled Name.GuestClock s [] _ _ (λ p. refl)
 
-pub fresh-unchanged : (l : Layout) (s : List ℕ) → Unchanged s [] (freshStore l s)
+pub fresh-unchanged : (l : Layout) (s : List ℕ) → Unchanged Name.FreshStore s [] (freshStore l s)
 unfolding freshStore
-fresh-unchanged l s = decided (Unchanged s []) s [] _ _ (kept s []) (λ p. done s [] _ refl)
+fresh-unchanged l s = settled Name.FreshStore s [] _ _ (λ p. refl)
 
 -- ---- a well-formed store stays well formed
 -- values stored behind the header leave it

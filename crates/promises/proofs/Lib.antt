@@ -1,9 +1,10 @@
-pub mod Kept
 pub mod Told
+pub mod Kept
 pub mod Lowest
 pub mod States
 pub mod ReadBack
 pub mod Runs
+pub mod Lookups
 pub mod Used
 pub mod Edges
 pub mod Apart

@@ -5,7 +5,7 @@ use mathlib.Core.Logic.{_≢_}
 use mathlib.Core.Bool.{Bool, true, false, not, _&&_, _||_, cond}
 use mathlib.Core.List.{List, [], _∷_}
 use Prim.Native.Nat.{ℕ, zero, suc, _+_, _*_, _≤_, _<_}
-use native.Mathlib.Decide.{ℕ-discrete}
+use native.Mathlib.Decide.{ℕ-discrete, decLt}
 use native.Mathlib.Omega.{arith}
 use lib.Dec.{eqb}
 use lib.ListN.{length}
@@ -17,6 +17,7 @@ use Rattle.answer.specs.declared.Fault.the-variants.{None, Store, Flag, Guest, 
 use Rattle.answer.specs.Refusals.{firstOf}
 use Rattle.store.specs.declared.Layout.{Layout}
 use Rattle.store.specs.Layout.{Sound, guestAt, slotAt, guestBytes, slotBytes}
+use Rattle.store.specs.Search.{first}
 use Rattle.store.specs.Header.{header, live, word, wordOf, holds, slotHolding, slotOf, freeSlot, isDead, freeGuest, guestOf}
 use Rattle.store.specs.Store.{wellFormed, putLive, putWord, withGuest, withVcpu, withoutGuest, noWords, noGuests, withoutGuests}
 use Rattle.store.proofs.Search.{no-bool, first-found, found-first, first-bounds, first-none, first-le}
@@ -253,30 +254,38 @@ module _ (l : Layout) (so : Sound l) (s : List ℕ) where
         go false q n = one q (not-false _ n)
 
     -- the guest named is not live, with bit 0 none is
-    pub freed-guest : (g : ℕ) → deletes flags guest g ≡ true → live l (header l left) g ≡ false
+    pub freed-guest : (g : ℕ) → deletes flags guest g ≡ true → live l (header l (outcome l s (DeleteGuest flags guest) .store)) g ≡ false
     freed-guest g d =
         by-bit0 (λ (t : List ℕ). live l (header l t) g ≡ false) (λ q. all-dead (was .good) g)
         (λ q lv. let z : g ≡ guest = eqb-true _ _ (ap (λ (t : Bool). t || eqb g guest) (sym q) ∙ d) in
         ap (live l (header l (withoutGuest l s guest))) z ∙ deleted-live l so s (was .good) guest lv)
 
     -- its slots are free, with bit 0 all are
-    pub freed-slot : (a : ℕ) → a < l .slots → deletes flags guest (guestOf l (word l (header l s) a)) ≡ true → word l (header l left) a ≡ 0
+    pub freed-slot : (a : ℕ) → a < l .slots → deletes flags guest (guestOf l (word l (header l s) a)) ≡ true → word l (header l (outcome l s (DeleteGuest flags guest) .store)) a ≡ 0
     freed-slot a la d =
         by-bit0 (λ (t : List ℕ). word l (header l t) a ≡ 0) (λ q. all-gone (was .good) a la)
         (λ q lv. deleted-slot l so s (was .good) guest lv a la (eqb-true _ _ (ap (λ (t : Bool). t || eqb (guestOf l (word l (header l s) a)) guest) (sym q) ∙ d)))
 
     -- every other slot is as it was
-    pub kept-slot : (a : ℕ) → deletes flags guest (guestOf l (word l (header l s) a)) ≡ false → word l (header l left) a ≡ word l (header l s) a
+    pub kept-slot : (a : ℕ) → deletes flags guest (guestOf l (word l (header l s) a)) ≡ false → word l (header l (outcome l s (DeleteGuest flags guest) .store)) a ≡ word l (header l s) a
     kept-slot a d =
         by-bit0 (λ (t : List ℕ). word l (header l t) a ≡ word l (header l s) a)
         (λ q. absurd (no-bool (sym d ∙ ap (λ (t : Bool). t || eqb (guestOf l (word l (header l s) a)) guest) q)))
         (λ q lv. deleted-other l so s (was .good) guest lv a (eqb-false _ _ (ap (λ (t : Bool). t || eqb (guestOf l (word l (header l s) a)) guest) (sym q) ∙ d)))
 
     -- so the next create takes that id or slot, or a lower one that is free too
-    pub guest-again : (g : ℕ) → 1 ≤ g → g ≤ l .guests → deletes flags guest g ≡ true → freeGuest l (header l left) ≤ g
+    pub guest-again : (g : ℕ) → 1 ≤ g → deletes flags guest g ≡ true → freeGuest l (header l (outcome l s (DeleteGuest flags guest) .store)) ≤ g
     unfolding freeGuest isDead
-    guest-again g lo hi d = first-le (isDead l (header l left)) (l .guests) 1 g (ap not (freed-guest g d)) lo (omega arith)
+    guest-again g lo d = go (decLt (l .guests) g)
+      where
+        go : Dec (l .guests < g) → first (isDead l (header l left)) (l .guests) 1 ≤ g
+        go (yes h) = omega (arith, first-bounds (isDead l (header l left)) (l .guests) 1 .1)
+        go (no h) = first-le (isDead l (header l left)) (l .guests) 1 g (ap not (freed-guest g d)) lo (omega arith)
 
-    pub slot-again : (a : ℕ) → a < l .slots → deletes flags guest (guestOf l (word l (header l s) a)) ≡ true → freeSlot l (header l left) ≤ a
+    pub slot-again : (a : ℕ) → deletes flags guest (guestOf l (word l (header l s) a)) ≡ true → freeSlot l (header l (outcome l s (DeleteGuest flags guest) .store)) ≤ a
     unfolding freeSlot slotHolding holds
-    slot-again a la d = first-le (holds l (header l left) 0) (l .slots) 0 a (eq-eqb _ _ (freed-slot a la d)) (omega arith) (omega arith)
+    slot-again a d = go (decLt a (l .slots))
+      where
+        go : Dec (a < l .slots) → first (holds l (header l left) 0) (l .slots) 0 ≤ a
+        go (yes h) = first-le (holds l (header l left) 0) (l .slots) 0 a (eq-eqb _ _ (freed-slot a h d)) (omega arith) (omega arith)
+        go (no h) = omega (arith, first-bounds (holds l (header l left) 0) (l .slots) 0 .1)

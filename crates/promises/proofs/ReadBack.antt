@@ -6,8 +6,8 @@ use mathlib.Core.List.{List, [], _++_}
 use Prim.Native.Nat.{ℕ, _+_, _≤_}
 use native.Mathlib.Omega.{arith}
 use lib.ListN.{length}
-use Rattle.octets.specs.Bytes.{bytesAt, put}
-use Rattle.octets.proofs.Bytes.{right, length-bytesAt, read-back}
+use Rattle.octets.specs.Bytes.{bytesAt, put, right}
+use Rattle.octets.proofs.Bytes.{length-bytesAt, read-back}
 use Rattle.octets.proofs.Numbers.{be-other}
 use Rattle.answer.specs.declared.Fault.the-variants.{None, Length}
 use Rattle.elements.specs.declared.Source.{Source}
@@ -26,7 +26,7 @@ use Rattle.gsb.specs.declared.Walked.{Walked}
 use Rattle.gsb.specs.declared.Walked.the-variants.{Done, Stopped}
 use Rattle.gsb.specs.Walk.{countOf, idAt, sizeAt, offsetAt, firstBad}
 use Rattle.gsb.proofs.Judged.{GoodElement, good-element}
-use Rattle.gsb.proofs.First.{accepted-exactly}
+use Rattle.gsb.proofs.First.{all-good}
 use Rattle.gsb.proofs.Walks.{offset-start}
 use Rattle.store.specs.declared.Layout.{Layout}
 use Rattle.store.specs.Layout.{Sound, guestAt, slotAt}
@@ -37,6 +37,9 @@ use Rattle.transfer.proofs.Moving.{moves-fits, fits-stored}
 use Rattle.admission.specs.Refusals.{Outcome, accept, bit0, hasBit0, Passed}
 use Rattle.admission.specs.Target.{targetTests, baseOf}
 use Rattle.state.specs.State.{contextOf, isStopped, faultOf, bufferTests, setUse, setState, getUse, fillWith, getState}
+use Rattle.l0.specs.Calls.{GetState, SetState, outcome}
+use Rattle.promises.specs.History.{isAccepted}
+use Rattle.promises.proofs.Told.{accepted-none}
 use Rattle.promises.proofs.Kept.{base-values}
 use Rattle.promises.proofs.Lowest.{Real, accepted, no-store, no-flag, no-guest, no-vcpu}
 use Rattle.promises.proofs.States.{walked, all-ready, set-room}
@@ -65,7 +68,7 @@ module _ (l : Layout) (s : List ℕ) (flags guest vcpu : ℕ) (b : List ℕ) whe
 -- the first element of an accepted buffer that has one
 first-good : (k : Context) (b : List ℕ) → firstBad k b ≡ Done → countOf b ≡ 1 → GoodElement k b 4
 first-good k b d o =
-    subst (GoodElement k b) (sym (offset-start b)) (good-element k b (offsetAt b 0) (offsetAt b (0 + 1)) (accepted-exactly k b .0 d 0 (omega arith)) .0)
+    subst (GoodElement k b) (sym (offset-start b)) (good-element k b (offsetAt b 0) (offsetAt b (0 + 1)) (all-good k b .0 d 0 (omega arith)) .0)
 
 -- what a use that sets permits is stored, unless it is a NOP
 settable : (flags : ℕ) → isSetting (setUse (hasBit0 flags)) ≡ true
@@ -131,11 +134,10 @@ module _ (l : Layout) (so : Sound l) (s : List ℕ) (flags guest vcpu : ℕ) (b 
   abbrev after : List ℕ
   after = setState l s flags guest vcpu b .store
 
-  -- both buffers hold one element, which is no NOP, of one ID
-  pub set-then-get : setState l s flags guest vcpu b .answer .fault ≡ None → countOf b ≡ 1 → idAt b 4 ≢ 0
+  read-after : setState l s flags guest vcpu b .answer .fault ≡ None → countOf b ≡ 1 → idAt b 4 ≢ 0
       → getState l after flags guest vcpu c .answer .fault ≡ None → countOf c ≡ 1 → idAt c 4 ≡ idAt b 4
       → valueAt (getState l after flags guest vcpu c .buffer) 4 ≡ valueAt b 4
-  set-then-get eb ob n ec oc i =
+  read-after eb ob n ec oc i =
       let x = set-accepted l s flags guest vcpu b eb in
       let y = get-accepted l after flags guest vcpu c ec in
       let base = baseOf l s (hasBit0 flags) guest vcpu in
@@ -155,3 +157,10 @@ module _ (l : Layout) (so : Sound l) (s : List ℕ) (flags guest vcpu : ℕ) (b 
       ∙ ap (λ (v : List ℕ). valueAt v 4) (filled-one (baseOf l after (hasBit0 flags) guest vcpu) after c p tc oc)
       ∙ ap₂ (λ (u : ℕ) (z : List ℕ). valueAt (put c 8 (bytesAt z (u + p) (t .entry .size))) 4) bs st
       ∙ through b c s (base + p) (t .entry .size) sb sc (omega (arith, gb .inside, sb)) (omega (arith, gc .inside, sc)) room
+
+  -- both buffers hold one element, which is no NOP, of one ID
+  pub set-then-get : isAccepted l s (SetState flags guest vcpu b) ≡ true → countOf b ≡ 1 → idAt b 4 ≢ 0
+      → isAccepted l (outcome l s (SetState flags guest vcpu b) .store) (GetState flags guest vcpu c) ≡ true → countOf c ≡ 1 → idAt c 4 ≡ idAt b 4
+      → valueAt (outcome l (outcome l s (SetState flags guest vcpu b) .store) (GetState flags guest vcpu c) .buffer) 4 ≡ valueAt b 4
+  unfolding outcome
+  set-then-get eb ob n ec oc i = read-after (accepted-none l s (SetState flags guest vcpu b) eb) ob n (accepted-none l after (GetState flags guest vcpu c) ec) oc i

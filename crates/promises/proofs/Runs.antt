@@ -7,8 +7,8 @@ use mathlib.Core.List.{List}
 use Prim.Native.Nat.{ℕ, zero, suc, _+_, _≤_}
 use native.Mathlib.Omega.{arith}
 use lib.ListN.{length, getD}
-use Rattle.octets.specs.Bytes.{bytesAt}
-use Rattle.octets.proofs.Bytes.{Clear, left, getD-put-other}
+use Rattle.octets.specs.Bytes.{bytesAt, Clear, left}
+use Rattle.octets.proofs.Bytes.{getD-put-other}
 use Rattle.answer.specs.declared.Bad.{Bad}
 use Rattle.answer.specs.declared.Place.{Place}
 use Rattle.answer.specs.declared.Call.{Call as Name}
@@ -20,9 +20,10 @@ use Rattle.answer.specs.Refusals.{firstOf}
 use Rattle.rules.specs.declared.Usage.the-variants.{RunInput, Effect as InEffect}
 use Rattle.gsb.specs.declared.Walked.{Walked}
 use Rattle.gsb.specs.declared.Walked.the-variants.{Done, Stopped}
-use Rattle.gsb.specs.Walk.{countOf, badLength, offsetAt, firstBad}
-use Rattle.gsb.specs.First.{FirstBadAt, AllGood}
-use Rattle.gsb.proofs.First.{accepted-exactly}
+use Rattle.gsb.specs.declared.Verdict.{Verdict}
+use Rattle.gsb.specs.Walk.{countOf, badLength, offsetAt, judged, firstBad}
+use Rattle.gsb.specs.First.{FirstBadAt}
+use Rattle.gsb.proofs.First.{judged-leads, first-walk, all-good}
 use Rattle.store.specs.declared.Layout.{Layout}
 use Rattle.store.specs.Layout.{Sound, slotBytes}
 use Rattle.transfer.specs.Transfer.{applied}
@@ -34,10 +35,11 @@ use Rattle.exits.proofs.Rows.{length-output}
 use Rattle.admission.specs.Refusals.{Outcome, refuse, decide, Passed}
 use Rattle.admission.specs.Target.{baseOf}
 use Rattle.state.specs.State.{contextOf, isStopped, faultOf}
-use Rattle.run.specs.Run.{effectFault, runTargetTests, inputOf, contentTests, runTests, ranStore, ran, runVcpu}
+use Rattle.run.specs.Run.{effectFault, contentTests, runTests, ranStore, ran, runVcpu}
 use Rattle.run.proofs.Runs.{stopped-not, run-found}
 use Rattle.l0.specs.Calls.{Call, RunVcpu, outcome}
 use Rattle.promises.specs.History.{registers}
+use Rattle.promises.specs.Promised.{beforeInput, inputGiven, InputGood, EffectGood}
 use Rattle.promises.proofs.Kept.{decided}
 use Rattle.promises.proofs.States.{skip}
 use Rattle.promises.proofs.Told.{number-some, number-below, tells, toldBy, elementTold, first-told, good-told, element-told}
@@ -54,7 +56,7 @@ module _ (l : Layout) (s : List ℕ) (flags guest vcpu : ℕ) (input output effe
 
   -- the bytes of the lent input that count
   abbrev given : List ℕ
-  given = inputOf s base input
+  given = inputGiven l s guest vcpu input
 
   abbrev after : Outcome
   after = runVcpu l s flags guest vcpu input output effect exit
@@ -63,19 +65,19 @@ module _ (l : Layout) (s : List ℕ) (flags guest vcpu : ℕ) (input output effe
   done = ran base s given output effect exit
 
   abbrev earlier : List (Bool × Fault)
-  earlier = runTargetTests l s flags guest vcpu 0 (length input) (length output)
+  earlier = beforeInput l s flags guest vcpu input output
 
   abbrev call : Call
   call = RunVcpu flags guest vcpu input output effect exit
 
-  -- ---- demand 2: "Past the earlier checks a buffer is refused for an element exactly if it holds a bad one, and the place told is the
+  -- ---- Demand 2: "Past the earlier checks, a buffer is refused for an element exactly if it holds a bad one, and the place told is the
   -- first." 01: "the byte offset of the element's first byte in a run input"; 14 has the "byte offset of its first bad element, 0 if its
   -- length is bad".
-  abbrev InputGood : Type 0
-  InputGood = AllGood (contextOf l s RunInput) given
+  abbrev judgeInput : ℕ → Verdict
+  judgeInput = judged (contextOf l s RunInput) given
 
-  abbrev EffectGood : Type 0
-  EffectGood = AllGood (contextOf l s InEffect) effect
+  abbrev judgeEffect : ℕ → Verdict
+  judgeEffect = judged (contextOf l s InEffect) effect
 
   -- what is told of an effect, v being what its walk finds, and from 13 on
   abbrev effectShown : Bad → Place → Registers
@@ -94,7 +96,7 @@ module _ (l : Layout) (s : List ℕ) (flags guest vcpu : ℕ) (input output effe
   laterTold = later (known exit) (badLength effect) found
 
   -- past 1 to 12
-  module _ (p : Passed earlier) where
+  module _ (p : Passed (beforeInput l s flags guest vcpu input output)) where
     past : after ≡ firstOf (refuse s output) (contentTests l s given effect exit) done
     unfolding runVcpu decide
     past = skip (refuse s output) earlier (contentTests l s given effect exit) done p
@@ -113,10 +115,12 @@ module _ (l : Layout) (s : List ℕ) (flags guest vcpu : ℕ) (input output effe
         go Done true false (Stopped bad place) = refl
         go Done true false Done = refl
 
-    pub run-refused-exactly : (bad : Bad) (at : ℕ) → (registers l s call ≡ three (badNumber bad) at 0) ↔ ((i : ℕ) × FirstBadAt (contextOf l s RunInput) given i bad × (offsetAt given i ≡ at))
+    pub run-refused-exactly : (bad : Bad) (at : ℕ) → (registers l s (RunVcpu flags guest vcpu input output effect exit) ≡ three (badNumber bad) at 0)
+        ↔ ((i : ℕ) × FirstBadAt (judged (contextOf l s RunInput) (inputGiven l s guest vcpu input)) (inputGiven l s guest vcpu input) i bad × (offsetAt (inputGiven l s guest vcpu input) i ≡ at))
     run-refused-exactly bad at =
-        subst (λ (r : Registers). (r ≡ three (badNumber bad) at 0) ↔ ((i : ℕ) × FirstBadAt (contextOf l s RunInput) given i bad × (offsetAt given i ≡ at))) (sym run-told)
-        (element-told Name.RunVcpu laterTold (λ b. other b (known exit) (badLength effect) found) (contextOf l s RunInput) given bad at)
+        subst (λ (r : Registers). (r ≡ three (badNumber bad) at 0) ↔ ((i : ℕ) × FirstBadAt judgeInput given i bad × (offsetAt given i ≡ at))) (sym run-told)
+        (element-told judgeInput given (judged-leads (contextOf l s RunInput) given) (firstBad (contextOf l s RunInput) given) (first-walk (contextOf l s RunInput) given) Name.RunVcpu laterTold bad at
+        (other bad (known exit) (badLength effect) found))
       where
         -- 0, 13 and 14 are not 6, 7 or 8
         other : (b : Bad) (k long : Bool) (v : Walked) → later k long v .r3 ≢ badNumber b
@@ -125,55 +129,57 @@ module _ (l : Layout) (s : List ℕ) (flags guest vcpu : ℕ) (input output effe
         other b true false (Stopped bad place) e = number-below b (omega arith)
         other b true false Done e = number-some b e
 
-    pub run-accepted-exactly : (registers l s call .r3 ≡ 0) ↔ (InputGood × (known exit ≡ true) × (badLength effect ≡ false) × EffectGood)
+    pub run-accepted-exactly : (registers l s (RunVcpu flags guest vcpu input output effect exit) .r3 ≡ 0)
+        ↔ (InputGood l s guest vcpu input × (known exit ≡ true) × (badLength effect ≡ false) × EffectGood l s effect)
     run-accepted-exactly = (there, back)
       where
-        input-good : (toldBy (elementTold Name.RunVcpu) laterTold (firstBad (contextOf l s RunInput) given) .r3 ≡ 0) ↔ (InputGood × (laterTold .r3 ≡ 0))
-        input-good = good-told (elementTold Name.RunVcpu) laterTold (contextOf l s RunInput) given (λ bad place q. number-some bad (sym q))
+        input-good : (toldBy (elementTold Name.RunVcpu) laterTold (firstBad (contextOf l s RunInput) given) .r3 ≡ 0) ↔ (InputGood l s guest vcpu input × (laterTold .r3 ≡ 0))
+        input-good = good-told judgeInput given (judged-leads (contextOf l s RunInput) given) (firstBad (contextOf l s RunInput) given) (first-walk (contextOf l s RunInput) given) (elementTold Name.RunVcpu) laterTold (λ bad place q. number-some bad (sym q))
 
-        effect-good : (effectTold found .r3 ≡ 0) ↔ (EffectGood × (_≡_ {A = ℕ} 0 0))
-        effect-good = good-told effectShown (three 0 exit 0) (contextOf l s InEffect) effect (λ bad place q. omega arith)
+        effect-good : (effectTold found .r3 ≡ 0) ↔ (EffectGood l s effect × (_≡_ {A = ℕ} 0 0))
+        effect-good = good-told judgeEffect effect (judged-leads (contextOf l s InEffect) effect) found (first-walk (contextOf l s InEffect) effect) effectShown (three 0 exit 0) (λ bad place q. omega arith)
 
         parts : (k long : Bool) → later k long found .r3 ≡ 0 → (k ≡ true) × (long ≡ false) × (effectTold found .r3 ≡ 0)
         parts false long e = absurd (omega arith)
         parts true true e = absurd (omega arith)
         parts true false e = (refl, refl, e)
 
-        there : registers l s call .r3 ≡ 0 → InputGood × (known exit ≡ true) × (badLength effect ≡ false) × EffectGood
+        there : registers l s call .r3 ≡ 0 → InputGood l s guest vcpu input × (known exit ≡ true) × (badLength effect ≡ false) × EffectGood l s effect
         there e =
             let i = input-good .0 (sym (ap (λ (r : Registers). r .r3) run-told) ∙ e) in
             let x = parts (known exit) (badLength effect) (i .1) in
             (i .0, x .0, x .1, effect-good .0 (x .2) .0)
 
-        back : InputGood × (known exit ≡ true) × (badLength effect ≡ false) × EffectGood → registers l s call .r3 ≡ 0
+        back : InputGood l s guest vcpu input × (known exit ≡ true) × (badLength effect ≡ false) × EffectGood l s effect → registers l s call .r3 ≡ 0
         back f = ap (λ (r : Registers). r .r3) run-told ∙ input-good .1 (f .0, ap₂ (λ (k long : Bool). later k long found .r3) (f .1) (f .2) ∙ effect-good .1 (f .3, refl))
 
     -- past 13 too
-    module _ (good : InputGood) (k : known exit ≡ true) where
+    module _ (good : InputGood l s guest vcpu input) (k : known exit ≡ true) where
       effect-told : registers l s call ≡ cond (badLength effect) (three 14 0 0) (effectTold found)
       effect-told =
-          run-told ∙ ap (toldBy (elementTold Name.RunVcpu) laterTold) (accepted-exactly (contextOf l s RunInput) given .1 good)
+          run-told ∙ ap (toldBy (elementTold Name.RunVcpu) laterTold) (all-good (contextOf l s RunInput) given .1 good)
           ∙ ap (λ (t : Bool). later t (badLength effect) found) k
 
       -- an effect of a good length
       module _ (g : badLength effect ≡ false) where
-        pub effect-refused-exactly : (at : ℕ) → (registers l s call ≡ three 14 at 0) ↔ ((i : ℕ) × (bad : Bad) × FirstBadAt (contextOf l s InEffect) effect i bad × (offsetAt effect i ≡ at))
+        pub effect-refused-exactly : (at : ℕ) → (registers l s (RunVcpu flags guest vcpu input output effect exit) ≡ three 14 at 0)
+            ↔ ((i : ℕ) × (bad : Bad) × FirstBadAt (judged (contextOf l s InEffect) effect) effect i bad × (offsetAt effect i ≡ at))
         effect-refused-exactly at = (there, back)
           where
             walk-told : registers l s call ≡ effectTold found
             walk-told = effect-told ∙ ap (λ (t : Bool). cond t (three 14 0 0) (effectTold found)) g
 
-            first : (effectTold found ≡ three 14 at 0) ↔ ((i : ℕ) × (bad : Bad) × FirstBadAt (contextOf l s InEffect) effect i bad × (three 14 (offsetAt effect i) 0 ≡ three 14 at 0))
-            first = first-told effectShown (three 0 exit 0) (contextOf l s InEffect) effect (three 14 at 0) (λ e. let z : _≡_ {A = ℕ} 0 14 = ap (λ (r : Registers). r .r3) e in omega arith)
+            first : (effectTold found ≡ three 14 at 0) ↔ ((i : ℕ) × (bad : Bad) × FirstBadAt judgeEffect effect i bad × (three 14 (offsetAt effect i) 0 ≡ three 14 at 0))
+            first = first-told judgeEffect effect (judged-leads (contextOf l s InEffect) effect) found (first-walk (contextOf l s InEffect) effect) effectShown (three 0 exit 0) (three 14 at 0) (λ e. let z : _≡_ {A = ℕ} 0 14 = ap (λ (r : Registers). r .r3) e in omega arith)
 
-            there : registers l s call ≡ three 14 at 0 → (i : ℕ) × (bad : Bad) × FirstBadAt (contextOf l s InEffect) effect i bad × (offsetAt effect i ≡ at)
+            there : registers l s call ≡ three 14 at 0 → (i : ℕ) × (bad : Bad) × FirstBadAt judgeEffect effect i bad × (offsetAt effect i ≡ at)
             there e = let f = first .0 (sym walk-told ∙ e) in (f .0, f .1, f .2, ap (λ (r : Registers). r .r4) (f .3))
 
-            back : ((i : ℕ) × (bad : Bad) × FirstBadAt (contextOf l s InEffect) effect i bad × (offsetAt effect i ≡ at)) → registers l s call ≡ three 14 at 0
+            back : ((i : ℕ) × (bad : Bad) × FirstBadAt judgeEffect effect i bad × (offsetAt effect i ≡ at)) → registers l s call ≡ three 14 at 0
             back f = walk-told ∙ first .1 (f .0, f .1, f .2, ap (λ (y : ℕ). three 14 y 0) (f .3))
 
       -- no element lies at offset 0, so that 14 with 0 is told of a bad length alone
-      pub effect-length-exactly : (registers l s call ≡ three 14 0 0) ↔ (badLength effect ≡ true)
+      pub effect-length-exactly : (registers l s (RunVcpu flags guest vcpu input output effect exit) ≡ three 14 0 0) ↔ (badLength effect ≡ true)
       effect-length-exactly = (go (badLength effect) refl, λ e. effect-told ∙ ap (λ (t : Bool). cond t (three 14 0 0) (effectTold found)) e)
         where
           go : (t : Bool) → badLength effect ≡ t → registers l s call ≡ three 14 0 0 → badLength effect ≡ true
@@ -193,7 +199,8 @@ module _ (l : Layout) (s : List ℕ) (flags guest vcpu : ℕ) (input output effe
   record ByteKept (j : ℕ) (o : Outcome) : Type 0 where
     kept : getD (o .store) j 0 ≡ getD s j 0
 
-  pub run-only-named : (j : ℕ) → (Named base given (countOf given) j → ⊥) → (Named base effect (countOf effect) j → ⊥) → getD (after .store) j 0 ≡ getD s j 0
+  pub run-only-named : (j : ℕ) → (Named (baseOf l s false guest vcpu) (inputGiven l s guest vcpu input) (countOf (inputGiven l s guest vcpu input)) j → ⊥)
+      → (Named (baseOf l s false guest vcpu) effect (countOf effect) j → ⊥) → getD (runVcpu l s flags guest vcpu input output effect exit .store) j 0 ≡ getD s j 0
   unfolding runVcpu ran ranStore
   run-only-named j n m =
       decided (ByteKept j) s output tests done (λ f. record { kept = refl })
@@ -206,13 +213,13 @@ module _ (l : Layout) (s : List ℕ) (flags guest vcpu : ℕ) (input output effe
     same : bytesAt (o .store) i n ≡ bytesAt s i n
 
   -- any part of the store beside the values of the vCPU named
-  pub run-beside : (i n : ℕ) → i + n ≤ length s → Clear base slotBytes i n → bytesAt (after .store) i n ≡ bytesAt s i n
+  pub run-beside : (i n : ℕ) → Clear (baseOf l s false guest vcpu) slotBytes i n → bytesAt (runVcpu l s flags guest vcpu input output effect exit .store) i n ≡ bytesAt s i n
   unfolding runVcpu ran ranStore
-  run-beside i n room c =
+  run-beside i n c =
       decided (PartKept i n) s output tests done (λ f. record { same = refl })
       (λ p. record {
-        same = beside (contextOf l s InEffect) base effect (effect-walked p) (applied base given (countOf given) s) i n (omega (arith, room, length-applied base given s (countOf given))) c
-            ∙ beside (contextOf l s RunInput) base given (input-walked p) s i n room c;
+        same = beside (contextOf l s InEffect) base effect (effect-walked p) (applied base given (countOf given) s) i n c
+            ∙ beside (contextOf l s RunInput) base given (input-walked p) s i n c;
       }) .same
 
   length-ran : length (ranStore base given effect s) ≡ length s
@@ -223,7 +230,7 @@ module _ (l : Layout) (s : List ℕ) (flags guest vcpu : ℕ) (input output effe
     kept : getD (o .buffer) j 0 ≡ getD output j 0
 
   -- of the output only the first bytes, as many as the exit's row has
-  pub run-output-only : Sound l → (j : ℕ) → rowBytes (returned exit) ≤ j → getD (after .buffer) j 0 ≡ getD output j 0
+  pub run-output-only : Sound l → (j : ℕ) → rowBytes (returned exit) ≤ j → getD (runVcpu l s flags guest vcpu input output effect exit .buffer) j 0 ≡ getD output j 0
   unfolding runVcpu ran
   run-output-only so j k =
       decided (OutputKept j) s output tests done (λ f. record { kept = refl })

@@ -10,8 +10,7 @@ use native.Mathlib.Omega.{arith}
 use lib.Dec.{leb}
 use lib.ListN.{length, getD}
 use borrow.Author.Tests.{leb-false, not-false}
-use Rattle.octets.specs.Bytes.{bytesAt}
-use Rattle.octets.proofs.Bytes.{Clear, left, right}
+use Rattle.octets.specs.Bytes.{bytesAt, Clear, left, right}
 use Rattle.answer.specs.declared.Answer.{Answer}
 use Rattle.answer.specs.declared.Bad.{Bad}
 use Rattle.answer.specs.declared.Call.{Call as Name}
@@ -21,17 +20,17 @@ use Rattle.answer.specs.declared.Fault.the-variants.{Length}
 use Rattle.answer.specs.Refusals.{firstOf}
 use Rattle.rules.specs.declared.Usage.{Usage}
 use Rattle.rules.specs.declared.Usage.the-variants.{GuestGet, GuestSet, ThreadGet, ThreadSet}
-use Rattle.elements.proofs.Table.{bytesOf}
-use Rattle.rules.proofs.Rules.{scopeFor}
+use Rattle.elements.specs.Right.{bytesOf}
+use Rattle.rules.specs.Rules.{scopeFor}
 use Rattle.gsb.specs.declared.Walked.{Walked}
 use Rattle.gsb.specs.declared.Walked.the-variants.{Done, Stopped}
-use Rattle.gsb.specs.Walk.{countOf, badLength, firstBad}
+use Rattle.gsb.specs.Walk.{countOf, badLength, judged, firstBad}
 use Rattle.gsb.specs.First.{FirstBadAt, AllGood}
+use Rattle.gsb.proofs.First.{judged-leads, first-walk}
 use Rattle.gsb.proofs.Walks.{long-enough}
 use Rattle.store.specs.declared.Layout.{Layout}
 use Rattle.store.specs.Layout.{Sound, guestBytes, slotBytes, guestAt, slotAt}
 use Rattle.store.specs.Header.{header, slotOf}
-use Rattle.store.specs.Store.{wellFormed}
 use Rattle.store.proofs.Frame.{formed}
 use Rattle.store.proofs.Tests.{live-parts}
 use Rattle.transfer.specs.Transfer.{applied, AllReady}
@@ -44,7 +43,7 @@ use Rattle.state.specs.State.{contextOf, isStopped, faultOf, badElement, buffer
 use Rattle.l0.specs.Calls.{GetState, SetState, outcome}
 use Rattle.promises.specs.History.{registers}
 use Rattle.promises.proofs.Kept.{decided}
-use Rattle.promises.proofs.Told.{tells, toldBy, elementTold, index-told, zero-told}
+use Rattle.promises.proofs.Told.{number-some, tells, toldBy, elementTold, index-told, zero-told}
 
 -- tests that failed may be left out
 pub skip : {B : Type 0} (turn : Fault → B) (xs ys : List (Bool × Fault)) (o : B) → Passed xs → firstOf turn (xs ++ ys) o ≡ firstOf turn ys o
@@ -56,7 +55,7 @@ not-stopped Done e = refl
 not-stopped (Stopped bad place) e = let z : _≡_ {A = ℕ} 0 1 = cc in absurd (omega arith)
 
 module _ (l : Layout) (s : List ℕ) (flags guest vcpu : ℕ) (b : List ℕ) where
-  -- ---- demand 2: "Past the earlier checks a buffer is refused for an element exactly if it holds a bad one, and the place told is the
+  -- ---- Demand 2: "Past the earlier checks, a buffer is refused for an element exactly if it holds a bad one, and the place told is the
   -- first." 01: "Place is the array index from 0 in get state, set state".
   module _ (p : Passed (targetTests l s bit0 flags (hasBit0 flags) guest vcpu)) (g : badLength b ≡ false) where
     -- past the earlier tests, what is told is what the walk finds
@@ -79,17 +78,25 @@ module _ (l : Layout) (s : List ℕ) (flags guest vcpu : ℕ) (b : List ℕ) whe
     unfolding registers outcome getState
     get-told = walk-told Name.GetState (getUse (hasBit0 flags)) b _ refl _ refl
 
-    pub set-refused-exactly : (bad : Bad) (i : ℕ) → (registers l s (SetState flags guest vcpu b) ≡ three (badNumber bad) i 0) ↔ FirstBadAt (contextOf l s (setUse (hasBit0 flags))) b i bad
-    set-refused-exactly = index-told Name.SetState _ b _ set-told (λ place. refl)
+    pub set-refused-exactly : (bad : Bad) (i : ℕ) → (registers l s (SetState flags guest vcpu b) ≡ three (badNumber bad) i 0) ↔ FirstBadAt (judged (contextOf l s (setUse (hasBit0 flags))) b) b i bad
+    set-refused-exactly bad i =
+        let k = contextOf l s (setUse (hasBit0 flags)) in
+        index-told (judged k b) b (judged-leads k b) (firstBad k b) (first-walk k b) Name.SetState (three 0 0 0) bad i (number-some bad) _ set-told (λ place. refl)
 
-    pub get-refused-exactly : (bad : Bad) (i : ℕ) → (registers l s (GetState flags guest vcpu b) ≡ three (badNumber bad) i 0) ↔ FirstBadAt (contextOf l s (getUse (hasBit0 flags))) b i bad
-    get-refused-exactly = index-told Name.GetState _ b _ get-told (λ place. refl)
+    pub get-refused-exactly : (bad : Bad) (i : ℕ) → (registers l s (GetState flags guest vcpu b) ≡ three (badNumber bad) i 0) ↔ FirstBadAt (judged (contextOf l s (getUse (hasBit0 flags))) b) b i bad
+    get-refused-exactly bad i =
+        let k = contextOf l s (getUse (hasBit0 flags)) in
+        index-told (judged k b) b (judged-leads k b) (firstBad k b) (first-walk k b) Name.GetState (three 0 0 0) bad i (number-some bad) _ get-told (λ place. refl)
 
-    pub set-accepted-exactly : (registers l s (SetState flags guest vcpu b) .r3 ≡ 0) ↔ AllGood (contextOf l s (setUse (hasBit0 flags))) b
-    set-accepted-exactly = zero-told Name.SetState _ b _ set-told
+    pub set-accepted-exactly : (registers l s (SetState flags guest vcpu b) .r3 ≡ 0) ↔ AllGood (judged (contextOf l s (setUse (hasBit0 flags))) b) b
+    set-accepted-exactly =
+        let k = contextOf l s (setUse (hasBit0 flags)) in
+        zero-told (judged k b) b (judged-leads k b) (firstBad k b) (first-walk k b) Name.SetState _ set-told
 
-    pub get-accepted-exactly : (registers l s (GetState flags guest vcpu b) .r3 ≡ 0) ↔ AllGood (contextOf l s (getUse (hasBit0 flags))) b
-    get-accepted-exactly = zero-told Name.GetState _ b _ get-told
+    pub get-accepted-exactly : (registers l s (GetState flags guest vcpu b) .r3 ≡ 0) ↔ AllGood (judged (contextOf l s (getUse (hasBit0 flags))) b) b
+    get-accepted-exactly =
+        let k = contextOf l s (getUse (hasBit0 flags)) in
+        zero-told (judged k b) b (judged-leads k b) (firstBad k b) (first-walk k b) Name.GetState _ get-told
 
   -- ---- only what is named changes
   -- a buffer that passed its tests was walked to its end
@@ -114,12 +121,15 @@ module _ (l : Layout) (s : List ℕ) (flags guest vcpu : ℕ) (b : List ℕ) whe
   record PartKept (i n : ℕ) (o : Outcome) : Type 0 where
     same : bytesAt (o .store) i n ≡ bytesAt s i n
 
-  -- any part of the store beside the values of the guest or vCPU named
-  pub set-beside : (i n : ℕ) → i + n ≤ length s → Clear (baseOf l s (hasBit0 flags) guest vcpu) (bytesOf (scopeFor (setUse (hasBit0 flags)))) i n → bytesAt (setState l s flags guest vcpu b .store) i n ≡ bytesAt s i n
+  -- any part of the store beside the values of the guest or vCPU named; a refused call names none
+  set-apart : (i n : ℕ) → (Passed setTests → Clear (baseOf l s (hasBit0 flags) guest vcpu) (bytesOf (scopeFor (setUse (hasBit0 flags)))) i n) → bytesAt (setState l s flags guest vcpu b .store) i n ≡ bytesAt s i n
   unfolding setState
-  set-beside i n room c =
+  set-apart i n c =
       decided (PartKept i n) s [] setTests setDone (λ f. record { same = refl })
-      (λ p. record { same = beside (contextOf l s (setUse (hasBit0 flags))) (baseOf l s (hasBit0 flags) guest vcpu) b (walked (setUse (hasBit0 flags)) p) s i n room c }) .same
+      (λ p. record { same = beside (contextOf l s (setUse (hasBit0 flags))) (baseOf l s (hasBit0 flags) guest vcpu) b (walked (setUse (hasBit0 flags)) p) s i n (c p) }) .same
+
+  pub set-beside : (i n : ℕ) → Clear (baseOf l s (hasBit0 flags) guest vcpu) (bytesOf (scopeFor (setUse (hasBit0 flags)))) i n → bytesAt (setState l s flags guest vcpu b .store) i n ≡ bytesAt s i n
+  set-beside i n c = set-apart i n (λ p. c)
 
   -- ---- get: only value bytes of the buffer
   -- the values of a target that was found lie within the store
@@ -188,17 +198,16 @@ guests-apart l g k a b n = go (decLt g k)
     go (yes h) = left (omega arith)
     go (no h) = right (omega arith)
 
-guest-slot-apart : (l : Layout) → Sound l → (g j : ℕ) → 1 ≤ g → g ≤ l .guests → Clear (guestAt l g) guestBytes (slotAt l j) slotBytes
-guest-slot-apart l so g j a b = left (omega (arith, so .guests-fit))
-
-module _ (l : Layout) (so : Sound l) (s : List ℕ) (good : wellFormed l s ≡ true) (flags guest vcpu : ℕ) (b : List ℕ) where
-  long : length s ≡ l .size
-  long = formed l s good .long
-
+-- the store, the guest and the vCPU are any: a call that is refused changes nothing
+module _ (l : Layout) (s : List ℕ) (flags guest vcpu : ℕ) (b : List ℕ) where
   -- by where the values of the call start
   clear-of : (base bytes i n : ℕ) → baseOf l s (hasBit0 flags) guest vcpu ≡ base → cond (hasBit0 flags) guestBytes slotBytes ≡ bytes → Clear base bytes i n
       → Clear (baseOf l s (hasBit0 flags) guest vcpu) (bytesOf (scopeFor (setUse (hasBit0 flags)))) i n
   clear-of base bytes i n e q c = subst (λ (x : ℕ). Clear x (bytesOf (scopeFor (setUse (hasBit0 flags)))) i n) (sym e) (subst (λ (y : ℕ). Clear base y i n) (sym (set-room l s flags guest vcpu b ∙ q)) c)
+
+  -- a call that passed its tests names a guest of the layout
+  guest-named : Passed (setTests l s flags guest vcpu b) → (1 ≤ guest) × (guest ≤ l .guests)
+  guest-named p = live-parts l (header l s) guest (not-false _ (p .1 .1 .0))
 
   module _ (thread : hasBit0 flags ≡ false) where
     thread-base : baseOf l s (hasBit0 flags) guest vcpu ≡ slotAt l (slotOf l (header l s) guest vcpu)
@@ -208,17 +217,19 @@ module _ (l : Layout) (so : Sound l) (s : List ℕ) (good : wellFormed l s ≡ t
     thread-bytes : cond (hasBit0 flags) guestBytes slotBytes ≡ slotBytes
     thread-bytes = simp thread
 
-    pub other-slot : (j : ℕ) → j < l .slots → slotOf l (header l s) guest vcpu ≢ j → bytesAt (setState l s flags guest vcpu b .store) (slotAt l j) slotBytes ≡ bytesAt s (slotAt l j) slotBytes
-    other-slot j k n =
-        set-beside l s flags guest vcpu b (slotAt l j) slotBytes (omega (arith, long, so .whole))
+    -- a thread set leaves the values of every slot but the vCPU's
+    pub other-slot : (j : ℕ) → slotOf l (header l s) guest vcpu ≢ j → bytesAt (setState l s flags guest vcpu b .store) (slotAt l j) slotBytes ≡ bytesAt s (slotAt l j) slotBytes
+    other-slot j n =
+        set-beside l s flags guest vcpu b (slotAt l j) slotBytes
         (clear-of (slotAt l (slotOf l (header l s) guest vcpu)) slotBytes (slotAt l j) slotBytes thread-base thread-bytes (slots-apart l (slotOf l (header l s) guest vcpu) j n))
 
-    -- a thread set leaves every guest's values
-    pub every-guest : (g : ℕ) → 1 ≤ g → g ≤ l .guests → bytesAt (setState l s flags guest vcpu b .store) (guestAt l g) guestBytes ≡ bytesAt s (guestAt l g) guestBytes
-    every-guest g lo hi =
-        set-beside l s flags guest vcpu b (guestAt l g) guestBytes (omega (arith, long, so .whole, so .guests-fit))
-        (clear-of (slotAt l (slotOf l (header l s) guest vcpu)) slotBytes (guestAt l g) guestBytes thread-base thread-bytes
-        (right (omega (arith, so .guests-fit))))
+    -- and every guest's
+    pub every-guest : Sound l → (g : ℕ) → g ≤ l .guests → bytesAt (setState l s flags guest vcpu b .store) (guestAt l g) guestBytes ≡ bytesAt s (guestAt l g) guestBytes
+    every-guest so g hi =
+        set-apart l s flags guest vcpu b (guestAt l g) guestBytes
+        (λ p. let r = guest-named p in
+        clear-of (slotAt l (slotOf l (header l s) guest vcpu)) slotBytes (guestAt l g) guestBytes thread-base thread-bytes
+        (right (omega (arith, so .guests-fit, r .0, r .1))))
 
   module _ (wide : hasBit0 flags ≡ true) where
     wide-base : baseOf l s (hasBit0 flags) guest vcpu ≡ guestAt l guest
@@ -228,13 +239,15 @@ module _ (l : Layout) (so : Sound l) (s : List ℕ) (good : wellFormed l s ≡ t
     wide-bytes : cond (hasBit0 flags) guestBytes slotBytes ≡ guestBytes
     wide-bytes = simp wide
 
-    pub other-guest : (g : ℕ) → 1 ≤ guest → 1 ≤ g → g ≤ l .guests → guest ≢ g → bytesAt (setState l s flags guest vcpu b .store) (guestAt l g) guestBytes ≡ bytesAt s (guestAt l g) guestBytes
-    other-guest g lo′ lo hi n =
-        set-beside l s flags guest vcpu b (guestAt l g) guestBytes (omega (arith, long, so .whole, so .guests-fit))
-        (clear-of (guestAt l guest) guestBytes (guestAt l g) guestBytes wide-base wide-bytes (guests-apart l guest g lo′ lo n))
+    -- a guest-wide set leaves every other guest's values
+    pub other-guest : (g : ℕ) → 1 ≤ g → guest ≢ g → bytesAt (setState l s flags guest vcpu b .store) (guestAt l g) guestBytes ≡ bytesAt s (guestAt l g) guestBytes
+    other-guest g lo n =
+        set-apart l s flags guest vcpu b (guestAt l g) guestBytes
+        (λ p. clear-of (guestAt l guest) guestBytes (guestAt l g) guestBytes wide-base wide-bytes (guests-apart l guest g (guest-named p .0) lo n))
 
-    -- a guest-wide set leaves every slot's values
-    pub every-slot : (j : ℕ) → 1 ≤ guest → guest ≤ l .guests → j < l .slots → bytesAt (setState l s flags guest vcpu b .store) (slotAt l j) slotBytes ≡ bytesAt s (slotAt l j) slotBytes
-    every-slot j lo hi k =
-        set-beside l s flags guest vcpu b (slotAt l j) slotBytes (omega (arith, long, so .whole))
-        (clear-of (guestAt l guest) guestBytes (slotAt l j) slotBytes wide-base wide-bytes (guest-slot-apart l so guest j lo hi))
+    -- and every slot's
+    pub every-slot : Sound l → (j : ℕ) → bytesAt (setState l s flags guest vcpu b .store) (slotAt l j) slotBytes ≡ bytesAt s (slotAt l j) slotBytes
+    every-slot so j =
+        set-apart l s flags guest vcpu b (slotAt l j) slotBytes
+        (λ p. let r = guest-named p in
+        clear-of (guestAt l guest) guestBytes (slotAt l j) slotBytes wide-base wide-bytes (left (omega (arith, so .guests-fit, r .0, r .1))))

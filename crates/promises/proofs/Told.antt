@@ -1,12 +1,13 @@
--- What R3, R4 and R5 tell of a walk: `first-told`, and `good-told`; and the table of answers read backwards. Assumes nothing.
+-- THEOREM `none-told`: R3 is 0 exactly of success. And what R3, R4 and R5 tell of a walk: `first-told`, `good-told`; the table of answers read
+-- backwards. Assumes nothing.
 use mathlib.Core.Path.{_≡_, refl, sym, ap, _∙_, subst}
 use mathlib.Core.Logic.{_↔_, _≢_}
-use mathlib.Core.Bool.{true, false, cond}
+use mathlib.Core.Bool.{true, cond}
 use mathlib.Core.List.{List}
 use Prim.Native.Nat.{ℕ, _<_}
 use native.Mathlib.Omega.{arith}
 use lib.Dec.{eqb}
-use borrow.Author.Tests.{eqb-true, eqb-false}
+use borrow.Author.Tests.{eqb-true, eqb-false, ne-eqb}
 use Rattle.answer.specs.declared.Bad.{Bad}
 use Rattle.answer.specs.declared.Bad.the-variants.{Id, Size, Value}
 use Rattle.answer.specs.declared.Place.{Place}
@@ -15,16 +16,18 @@ use Rattle.answer.specs.declared.Fault.{Fault}
 use Rattle.answer.specs.declared.Fault.the-variants.{None, Store, Flag, Guest, Token, Capability, Vcpu, Length, Element, Room, Exists, Unregistered, Short, Exit, Effect, Cache}
 use Rattle.answer.specs.declared.Registers.{Registers}
 use Rattle.answer.specs.Answer.{badNumber, placeShown, three, told}
-use Rattle.rules.specs.declared.Context.{Context}
+use Rattle.answer.specs.declared.Answer.{Answer}
+use Rattle.gsb.specs.declared.Verdict.{Verdict}
 use Rattle.gsb.specs.declared.Walked.{Walked}
 use Rattle.gsb.specs.declared.Walked.the-variants.{Done, Stopped}
-use Rattle.gsb.specs.Walk.{offsetAt, firstBad}
-use Rattle.gsb.specs.First.{FirstBadAt, AllGood}
+use Rattle.gsb.specs.Walk.{countOf, offsetAt, walk}
+use Rattle.gsb.specs.First.{Leads, FirstBadAt, AllGood}
 use Rattle.gsb.proofs.First.{refused-exactly, accepted-exactly}
 use Rattle.store.specs.declared.Layout.{Layout}
 use Rattle.admission.specs.Refusals.{Outcome}
 use Rattle.l0.specs.Calls.{Call, outcome}
 use Rattle.promises.specs.History.{nameOf, registers, isAccepted}
+use Rattle.promises.specs.Promised.{NotAccepted}
 
 -- ---- 6, 7 and 8, read backwards
 numbered : ℕ → Bad
@@ -53,38 +56,44 @@ number-below Value e = omega arith
 abbrev pub tells : Name → Outcome → Registers
 tells c o = told c (o .answer .fault) (o .answer .value)
 
--- R3 is 0 only of success
-pub none-told : (c : Name) (f : Fault) (v : ℕ) → told c f v .r3 ≡ 0 → f ≡ None
-none-told c None v e = refl
-none-told c Store v e = absurd (omega arith)
-none-told c (Flag bit) v e = absurd (omega arith)
-none-told c Guest v e = absurd (omega arith)
-none-told c Token v e = absurd (omega arith)
-none-told c Capability v e = absurd (omega arith)
-none-told c Vcpu v e = absurd (omega arith)
-none-told c Length v e = absurd (omega arith)
-none-told c (Element bad place) v e = absurd (number-some bad (sym e))
-none-told c Room v e = absurd (omega arith)
-none-told c Exists v e = absurd (omega arith)
-none-told c (Unregistered buffer) v e = absurd (omega arith)
-none-told c (Short buffer) v e = absurd (omega arith)
-none-told c Exit v e = absurd (omega arith)
-none-told c (Effect place) v e = absurd (omega arith)
-none-told c Cache v e = absurd (omega arith)
+-- R3 is 0 exactly of success
+success-told : (c : Name) (f : Fault) (v : ℕ) → told c f v .r3 ≡ 0 → f ≡ None
+success-told c None v e = refl
+success-told c Store v e = absurd (omega arith)
+success-told c (Flag bit) v e = absurd (omega arith)
+success-told c Guest v e = absurd (omega arith)
+success-told c Token v e = absurd (omega arith)
+success-told c Capability v e = absurd (omega arith)
+success-told c Vcpu v e = absurd (omega arith)
+success-told c Length v e = absurd (omega arith)
+success-told c (Element bad place) v e = absurd (number-some bad (sym e))
+success-told c Room v e = absurd (omega arith)
+success-told c Exists v e = absurd (omega arith)
+success-told c (Unregistered buffer) v e = absurd (omega arith)
+success-told c (Short buffer) v e = absurd (omega arith)
+success-told c Exit v e = absurd (omega arith)
+success-told c (Effect place) v e = absurd (omega arith)
+success-told c Cache v e = absurd (omega arith)
+
+pub none-told : (c : Name) (f : Fault) (v : ℕ) → (told c f v .r3 ≡ 0) ↔ (f ≡ None)
+none-told c f v = (success-told c f v, λ e. ap (λ (g : Fault). told c g v .r3) e)
 
 pub zero-none : (l : Layout) (s : List ℕ) (c : Call) → registers l s c .r3 ≡ 0 → outcome l s c .answer .fault ≡ None
 unfolding registers
-zero-none l s c e = none-told (nameOf c) (outcome l s c .answer .fault) (outcome l s c .answer .value) e
+zero-none l s c e = none-told (nameOf c) (outcome l s c .answer .fault) (outcome l s c .answer .value) .0 e
 
 pub accepted-none : (l : Layout) (s : List ℕ) (c : Call) → isAccepted l s c ≡ true → outcome l s c .answer .fault ≡ None
 unfolding isAccepted
 accepted-none l s c e = zero-none l s c (eqb-true _ _ e)
 
-pub none-accepted : (l : Layout) (s : List ℕ) (c : Call) → isAccepted l s c ≡ false → outcome l s c .answer .fault ≡ None → ⊥
-unfolding isAccepted registers
-none-accepted l s c e q = eqb-false _ _ e (ap (λ (f : Fault). told (nameOf c) f (outcome l s c .answer .value) .r3) q)
+-- refused exactly of a fault, so of one call's name as of another's
+pub refused-fault : (c : Name) (a : Answer) → NotAccepted c a → a .fault ≡ None → ⊥
+refused-fault c a r e = eqb-false _ _ r (none-told c (a .fault) (a .value) .1 e)
 
--- ---- of any walk
+pub fault-refused : (c : Name) (a : Answer) → (a .fault ≡ None → ⊥) → NotAccepted c a
+fault-refused c a n = ne-eqb _ _ (λ e. n (none-told c (a .fault) (a .value) .0 e))
+
+-- ---- of any walk, w: with the judge of a use, or with the lookup's
 abbrev pub placeOf : List ℕ → ℕ → Place
 placeOf b i = record { index = i; offset = offsetAt b i }
 
@@ -93,65 +102,64 @@ abbrev pub toldBy : (Bad → Place → Registers) → Registers → Walked → R
 toldBy show x Done = x
 toldBy show x (Stopped bad place) = show bad place
 
-module _ (show : Bad → Place → Registers) (x : Registers) (k : Context) (b : List ℕ) where
-  -- r, which is not told of a good buffer, is told exactly if it shows the first bad element
-  pub first-told : (r : Registers) → x ≢ r → (toldBy show x (firstBad k b) ≡ r) ↔ ((i : ℕ) × (bad : Bad) × FirstBadAt k b i bad × (show bad (placeOf b i) ≡ r))
-  first-told r n = (go (firstBad k b) refl, back)
-    where
-      go : (w : Walked) → firstBad k b ≡ w → toldBy show x w ≡ r → (i : ℕ) × (bad : Bad) × FirstBadAt k b i bad × (show bad (placeOf b i) ≡ r)
-      go Done e q = absurd (n q)
-      go (Stopped bad place) e q =
-          let f = refused-exactly k b bad place .0 e in
-          (place .index, bad, f .0, ap (λ (at : ℕ). show bad (record { index = place .index; offset = at })) (sym (f .1)) ∙ q)
-
-      back : ((i : ℕ) × (bad : Bad) × FirstBadAt k b i bad × (show bad (placeOf b i) ≡ r)) → toldBy show x (firstBad k b) ≡ r
-      back f = ap (toldBy show x) (refused-exactly k b (f .1) (placeOf b (f .0)) .1 (f .2, refl)) ∙ f .3
-
-  -- R3 is 0 exactly if every counted element is good, and then x tells so
-  pub good-told : ((bad : Bad) (place : Place) → show bad place .r3 ≢ 0) → (toldBy show x (firstBad k b) .r3 ≡ 0) ↔ (AllGood k b × (x .r3 ≡ 0))
-  good-told n = (go (firstBad k b) refl, back)
-    where
-      go : (w : Walked) → firstBad k b ≡ w → toldBy show x w .r3 ≡ 0 → AllGood k b × (x .r3 ≡ 0)
-      go Done e q = (accepted-exactly k b .0 e, q)
-      go (Stopped bad place) e q = absurd (n bad place q)
-
-      back : AllGood k b × (x .r3 ≡ 0) → toldBy show x (firstBad k b) .r3 ≡ 0
-      back f = ap (λ (w : Walked). toldBy show x w .r3) (accepted-exactly k b .1 (f .0)) ∙ f .1
-
--- ---- of get state, set state and a run's input: 6, 7 or 8 with the place
+-- 6, 7 or 8 with the place
 abbrev pub elementTold : Name → Bad → Place → Registers
 elementTold c bad place = told c (Element bad place) 0
 
-module _ (c : Name) (x : Registers) (other : (bad : Bad) → x .r3 ≢ badNumber bad) (k : Context) (b : List ℕ) (bad : Bad) (p : ℕ) where
-  pub element-told : (toldBy (elementTold c) x (firstBad k b) ≡ three (badNumber bad) p 0) ↔ ((i : ℕ) × FirstBadAt k b i bad × (placeShown c (placeOf b i) ≡ p))
-  element-told = (there, back)
-    where
-      first : (toldBy (elementTold c) x (firstBad k b) ≡ three (badNumber bad) p 0) ↔ ((i : ℕ) × (bad′ : Bad) × FirstBadAt k b i bad′ × (elementTold c bad′ (placeOf b i) ≡ three (badNumber bad) p 0))
-      first = first-told (elementTold c) x k b (three (badNumber bad) p 0) (λ e. other bad (ap (λ (r : Registers). r .r3) e))
+module _ (judge : ℕ → Verdict) (b : List ℕ) (leads : Leads judge b) (w : Walked) (is : w ≡ walk judge (countOf b) 0 4) where
+  module _ (show : Bad → Place → Registers) (x : Registers) where
+    -- r, which is not told of a good buffer, is told exactly if it shows the first bad element
+    pub first-told : (r : Registers) → x ≢ r → (toldBy show x w ≡ r) ↔ ((i : ℕ) × (bad : Bad) × FirstBadAt judge b i bad × (show bad (placeOf b i) ≡ r))
+    first-told r n = (go w (sym is), back)
+      where
+        go : (v : Walked) → walk judge (countOf b) 0 4 ≡ v → toldBy show x v ≡ r → (i : ℕ) × (bad : Bad) × FirstBadAt judge b i bad × (show bad (placeOf b i) ≡ r)
+        go Done e q = absurd (n q)
+        go (Stopped bad place) e q =
+            let f = refused-exactly judge b leads bad place .0 e in
+            (place .index, bad, f .0, ap (λ (at : ℕ). show bad (record { index = place .index; offset = at })) (sym (f .1)) ∙ q)
 
-      there : toldBy (elementTold c) x (firstBad k b) ≡ three (badNumber bad) p 0 → (i : ℕ) × FirstBadAt k b i bad × (placeShown c (placeOf b i) ≡ p)
-      there e =
-          let f = first .0 e in
-          (f .0, subst (FirstBadAt k b (f .0)) (number-bad (f .1) bad (ap (λ (r : Registers). r .r3) (f .3))) (f .2), ap (λ (r : Registers). r .r4) (f .3))
+        back : ((i : ℕ) × (bad : Bad) × FirstBadAt judge b i bad × (show bad (placeOf b i) ≡ r)) → toldBy show x w ≡ r
+        back f = ap (toldBy show x) (is ∙ refused-exactly judge b leads (f .1) (placeOf b (f .0)) .1 (f .2, refl)) ∙ f .3
 
-      back : ((i : ℕ) × FirstBadAt k b i bad × (placeShown c (placeOf b i) ≡ p)) → toldBy (elementTold c) x (firstBad k b) ≡ three (badNumber bad) p 0
-      back f = first .1 (f .0, bad, f .1, ap (λ (y : ℕ). three (badNumber bad) y 0) (f .2))
+    -- R3 is 0 exactly if every counted element is good, and then x tells so
+    pub good-told : ((bad : Bad) (place : Place) → show bad place .r3 ≢ 0) → (toldBy show x w .r3 ≡ 0) ↔ (AllGood judge b × (x .r3 ≡ 0))
+    good-told n = (go w (sym is), back)
+      where
+        go : (v : Walked) → walk judge (countOf b) 0 4 ≡ v → toldBy show x v .r3 ≡ 0 → AllGood judge b × (x .r3 ≡ 0)
+        go Done e q = (accepted-exactly judge b leads .0 e, q)
+        go (Stopped bad place) e q = absurd (n bad place q)
 
--- ---- of get state and set state, whose place is the index; r is what they tell
-module _ (c : Name) (k : Context) (b : List ℕ) (r : Registers) (e : r ≡ toldBy (elementTold c) (three 0 0 0) (firstBad k b)) where
-  pub index-told : ((place : Place) → placeShown c place ≡ place .index) → (bad : Bad) (i : ℕ) → (r ≡ three (badNumber bad) i 0) ↔ FirstBadAt k b i bad
-  index-told shows bad i = (there, back)
-    where
-      told-first : (toldBy (elementTold c) (three 0 0 0) (firstBad k b) ≡ three (badNumber bad) i 0) ↔ ((j : ℕ) × FirstBadAt k b j bad × (placeShown c (placeOf b j) ≡ i))
-      told-first = element-told c (three 0 0 0) number-some k b bad i
+        back : AllGood judge b × (x .r3 ≡ 0) → toldBy show x w .r3 ≡ 0
+        back f = ap (λ (v : Walked). toldBy show x v .r3) (is ∙ accepted-exactly judge b leads .1 (f .0)) ∙ f .1
 
-      there : r ≡ three (badNumber bad) i 0 → FirstBadAt k b i bad
-      there q = let f = told-first .0 (sym e ∙ q) in subst (λ (j : ℕ). FirstBadAt k b j bad) (sym (shows (placeOf b (f .0))) ∙ f .2) (f .1)
+  -- what shows a bad element; x has another R3
+  module _ (c : Name) (x : Registers) (bad : Bad) (p : ℕ) (other : x .r3 ≢ badNumber bad) where
+    pub element-told : (toldBy (elementTold c) x w ≡ three (badNumber bad) p 0) ↔ ((i : ℕ) × FirstBadAt judge b i bad × (placeShown c (placeOf b i) ≡ p))
+    element-told = (there, back)
+      where
+        first : (toldBy (elementTold c) x w ≡ three (badNumber bad) p 0) ↔ ((i : ℕ) × (bad′ : Bad) × FirstBadAt judge b i bad′ × (elementTold c bad′ (placeOf b i) ≡ three (badNumber bad) p 0))
+        first = first-told (elementTold c) x (three (badNumber bad) p 0) (λ e. other (ap (λ (r : Registers). r .r3) e))
 
-      back : FirstBadAt k b i bad → r ≡ three (badNumber bad) i 0
-      back f = e ∙ told-first .1 (i, f, shows (placeOf b i))
+        there : toldBy (elementTold c) x w ≡ three (badNumber bad) p 0 → (i : ℕ) × FirstBadAt judge b i bad × (placeShown c (placeOf b i) ≡ p)
+        there e =
+            let f = first .0 e in
+            (f .0, subst (FirstBadAt judge b (f .0)) (number-bad (f .1) bad (ap (λ (r : Registers). r .r3) (f .3))) (f .2), ap (λ (r : Registers). r .r4) (f .3))
 
-  pub zero-told : (r .r3 ≡ 0) ↔ AllGood k b
-  zero-told =
-      let g = good-told (elementTold c) (three 0 0 0) k b (λ bad place q. number-some bad (sym q)) in
+        back : ((i : ℕ) × FirstBadAt judge b i bad × (placeShown c (placeOf b i) ≡ p)) → toldBy (elementTold c) x w ≡ three (badNumber bad) p 0
+        back f = first .1 (f .0, bad, f .1, ap (λ (y : ℕ). three (badNumber bad) y 0) (f .2))
+
+    -- where the place is the index; r is what is told
+    pub index-told : (r : Registers) → r ≡ toldBy (elementTold c) x w → ((place : Place) → placeShown c place ≡ place .index) → (r ≡ three (badNumber bad) p 0) ↔ FirstBadAt judge b p bad
+    index-told r e shows = (there, back)
+      where
+        there : r ≡ three (badNumber bad) p 0 → FirstBadAt judge b p bad
+        there q = let f = element-told .0 (sym e ∙ q) in subst (λ (j : ℕ). FirstBadAt judge b j bad) (sym (shows (placeOf b (f .0))) ∙ f .2) (f .1)
+
+        back : FirstBadAt judge b p bad → r ≡ three (badNumber bad) p 0
+        back f = e ∙ element-told .1 (p, f, shows (placeOf b p))
+
+  -- 0 where the walk found none: exactly if every counted element is good
+  pub zero-told : (c : Name) (r : Registers) → r ≡ toldBy (elementTold c) (three 0 0 0) w → (r .r3 ≡ 0) ↔ AllGood judge b
+  zero-told c r e =
+      let g = good-told (elementTold c) (three 0 0 0) (λ bad place q. number-some bad (sym q)) in
       ((λ q. g .0 (sym (ap (λ (x : Registers). x .r3) e) ∙ q) .0), (λ f. ap (λ (x : Registers). x .r3) e ∙ g .1 (f, refl)))

@@ -33,7 +33,7 @@ use Rattle.guests.specs.Guests.{createGuest}
 use Rattle.l0.specs.Calls.{getCapabilities, setCapabilities, guestClock, Call, GetCapabilities, SetCapabilities, CreateGuest, CreateVcpu, GetState, SetState, RunVcpu, DeleteGuest, GuestClock, outcome, after}
 use Rattle.promises.specs.History.{registers, isAccepted, Count, nothing, deletes, isDropped, howMany, without, counting, countedOver, history, freeSlots}
 use Rattle.promises.proofs.Kept.{decided, refused-unchanged, applied-header, base-values, well-formed-kept, fresh-history}
-use Rattle.promises.proofs.Told.{zero-none, none-accepted}
+use Rattle.promises.proofs.Told.{zero-none}
 use Rattle.promises.proofs.Lowest.{VcpuMade, vcpu-made, new-word, made-header, free-slot, freed-slot, kept-slot}
 
 -- ---- a call that leaves the words of the store s as they were
@@ -221,12 +221,12 @@ module _ (l : Layout) (so : Sound l) (s : List ℕ) (good : wellFormed l s ≡ t
 
   -- a refused one leaves the store as it was
   turn-matches : (n : Count) (c : Call) → Matches l s (n .vcpus) → Matches l (outcome l s c .store) (cond (isAccepted l s c) (counting n c) n .vcpus)
-  unfolding isAccepted
+  unfolding isAccepted registers
   turn-matches n c m = go (isAccepted l s c) refl
     where
       go : (t : Bool) → isAccepted l s c ≡ t → Matches l (outcome l s c .store) (cond t (counting n c) n .vcpus)
       go true e = call-matches n c (eqb-true _ _ e) m
-      go false e = subst (λ (t : List ℕ). Matches l t (n .vcpus)) (sym (refused-unchanged l s c .store (none-accepted l s c e))) m
+      go false e = subst (λ (t : List ℕ). Matches l t (n .vcpus)) (sym (refused-unchanged l s c .store e)) m
 
   -- the used slots are those whose word is not zero
   used-named : usedSlots l (header l s) ≡ tally (named l (header l s) (λ g. true)) (l .slots)

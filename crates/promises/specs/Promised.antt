@@ -2,18 +2,34 @@
 use Prim.Native.Nat.{ℕ, _≤_, _<_}
 use mathlib.Core.Path.{_≡_}
 use mathlib.Core.Logic.{_≢_}
-use mathlib.Core.Bool.{true, false}
+use mathlib.Core.Bool.{Bool, true, false}
 use mathlib.Core.List.{List, []}
-use Rattle.answer.specs.declared.Fault.the-variants.{None}
+use lib.ListN.{length}
+use Rattle.answer.specs.declared.Answer.{Answer}
+use Rattle.answer.specs.declared.Call.{Call as Name}
+use Rattle.answer.specs.declared.Fault.{Fault}
+use Rattle.answer.specs.declared.Registers.{Registers}
+use Rattle.answer.specs.Answer.{told, accepted}
+use Rattle.rules.specs.declared.Usage.the-variants.{RunInput, Effect}
+use Rattle.gsb.specs.Walk.{judged}
+use Rattle.gsb.specs.First.{AllGood}
+use Rattle.gsb.specs.Lookup.{lookedUp}
 use Rattle.store.specs.declared.Layout.{Layout}
 use Rattle.store.specs.Header.{header, live, word}
 use Rattle.admission.specs.Refusals.{Outcome}
+use Rattle.admission.specs.Target.{baseOf}
+use Rattle.state.specs.State.{contextOf}
+use Rattle.run.specs.Run.{runTargetTests, inputOf}
 use Rattle.l0.specs.Calls.{Call, GetCapabilities, SetCapabilities, CreateGuest, CreateVcpu, GetState, SetState, RunVcpu, DeleteGuest, GuestClock}
 
--- Demand 1: "A refused call leaves all lent memory as it was." Of a call on the store s that is lent the buffer b to write
-pub record Unchanged (s b : List ℕ) (o : Outcome) : Type 0 where
-  pub store : (o .answer .fault ≡ None → ⊥) → o .store ≡ s
-  pub buffer : (o .answer .fault ≡ None → ⊥) → o .buffer ≡ b
+-- 01, "The L1 cache": "Accepted: R3 is 0." What the call c tells of its answer is no acceptance
+abbrev pub NotAccepted : Name → Answer → Type 0
+NotAccepted c a = accepted (told c (a .fault) (a .value)) ≡ false
+
+-- Demand 1: "A refused call leaves all lent memory as it found it." Of the call c on the store s, lent the buffer b to write
+pub record Unchanged (c : Name) (s b : List ℕ) (o : Outcome) : Type 0 where
+  pub store : NotAccepted c (o .answer) → o .store ≡ s
+  pub buffer : NotAccepted c (o .answer) → o .buffer ≡ b
 
 -- the buffer that a call is lent to write
 abbrev pub lent : Call → List ℕ
@@ -39,3 +55,23 @@ pub record LowestSlot (l : Layout) (s : List ℕ) (j : ℕ) : Type 0 where
   pub upto : j < l .slots
   pub free : word l (header l s) j ≡ 0
   pub taken : (k : ℕ) → k < j → word l (header l s) k ≢ 0
+
+-- ---- a run
+-- 01, "Answers": "run 1, 2, 3, 4, 11, 12, the input's elements, 13, 14": the tests before the elements
+abbrev pub beforeInput : Layout → List ℕ → ℕ → ℕ → ℕ → List ℕ → List ℕ → List (Bool × Fault)
+beforeInput l s flags guest vcpu input output = runTargetTests l s flags guest vcpu 0 (length input) (length output)
+
+-- 01, "Run": "The input is the first bytes of the lent one, as many as registered."
+abbrev pub inputGiven : Layout → List ℕ → ℕ → ℕ → List ℕ → List ℕ
+inputGiven l s guest vcpu input = inputOf s (baseOf l s false guest vcpu) input
+
+-- Demand 2: "exactly if it holds a bad one": the input holds none; nor does the effect
+abbrev pub InputGood : Layout → List ℕ → ℕ → ℕ → List ℕ → Type 0
+InputGood l s guest vcpu input = AllGood (judged (contextOf l s RunInput) (inputGiven l s guest vcpu input)) (inputGiven l s guest vcpu input)
+
+abbrev pub EffectGood : Layout → List ℕ → List ℕ → Type 0
+EffectGood l s effect = AllGood (judged (contextOf l s Effect) effect) effect
+
+-- ---- 01, "Answers": "Each answer is R3, R4, R5": those of a lookup
+unfoldable pub lookupTold : List ℕ → ℕ → Registers
+lookupTold b id = told Name.Lookup (lookedUp b id .answer .fault) (lookedUp b id .answer .value)

@@ -1,24 +1,13 @@
 -- THEOREM `as-printed`: the listing of 01's example is the text that 01 prints. Beside it, the shortest listings. Each is computed.
 -- Assumes nothing.
 use mathlib.Core.Path.{_≡_, refl}
-use mathlib.Core.List.{List, [], _∷_}
-use Prim.Native.Nat.{ℕ}
+use mathlib.Core.List.{[], _∷_}
 use Rattle.octets.specs.Bytes.{be}
 use Rattle.elements.specs.Table.{table, find, kindOf}
 use Rattle.rules.specs.Rules.{allows, permits, sizeFits, ruleOf, goodValue}
 use Rattle.gsb.specs.Walk.{judged, walkOn, walk, firstBad}
 use Rattle.render.specs.Text.{ascii, shown}
-use Rattle.render.specs.Listing.{firstLine, verdictText, line, onGood, lines, refusedLine, lastLine, listing}
-
--- a count of 2; 0x1003 with 8 bytes of value, which is good; 0x0003, which is no thread element
-abbrev pub example : List ℕ
-example =
-    0x00 ∷ 0x00 ∷ 0x00 ∷ 0x02
-    ∷ 0x10 ∷ 0x03 ∷ 0x00 ∷ 0x08
-    ∷ 0x00 ∷ 0x00 ∷ 0x00 ∷ 0x00 ∷ 0x00 ∷ 0x00 ∷ 0x00 ∷ 0x07
-    ∷ 0x00 ∷ 0x03 ∷ 0x00 ∷ 0x04
-    ∷ 0x0F ∷ 0x00 ∷ 0x00 ∷ 0x06
-    ∷ []
+use Rattle.render.specs.Listing.{firstLine, verdictText, line, onGood, lines, refusedLine, lastLine, listing, example}
 
 pub as-printed : listing example ≡ ascii "elements 2 bytes 24\n0 4 1003 8 ok\n1 16 0003 4 bad\nanswer 6 index 1\n"
 unfolding be table find kindOf allows permits sizeFits ruleOf goodValue judged walkOn walk firstBad shown firstLine verdictText line onGood lines refusedLine lastLine listing

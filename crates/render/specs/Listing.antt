@@ -1,7 +1,7 @@
 -- 01, "Around each edge", the listing program: what it prints for a buffer, which it judges as a thread set.
 use Prim.Native.Nat.{ℕ, zero, suc, _+_, _≤_}
 use mathlib.Core.Bool.{cond}
-use mathlib.Core.List.{List, [], _++_}
+use mathlib.Core.List.{List, [], _∷_, _++_}
 use lib.Dec.{ltb}
 use lib.ListN.{length}
 use Rattle.octets.specs.Bytes.{put}
@@ -80,3 +80,13 @@ rendered b text =
 abbrev pub Within : Rendered → ℕ → Type 0
 Within (Text n) size = n ≤ size
 Within Short size = Unit {0}
+
+-- "Input (hex) `00000002 10030008 0000000000000007 00030004 0F000006`"
+abbrev pub example : List ℕ
+example =
+    0x00 ∷ 0x00 ∷ 0x00 ∷ 0x02
+    ∷ 0x10 ∷ 0x03 ∷ 0x00 ∷ 0x08
+    ∷ 0x00 ∷ 0x00 ∷ 0x00 ∷ 0x00 ∷ 0x00 ∷ 0x00 ∷ 0x00 ∷ 0x07
+    ∷ 0x00 ∷ 0x03 ∷ 0x00 ∷ 0x04
+    ∷ 0x0F ∷ 0x00 ∷ 0x00 ∷ 0x06
+    ∷ []

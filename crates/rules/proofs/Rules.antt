@@ -21,7 +21,7 @@ use Rattle.elements.specs.Table.{table, below, position, sourceOf, find, sameSc
 use Rattle.elements.proofs.Table.{T-true, entry-rule, thread-stored}
 use Rattle.elements.specs.Private.{threadKind}
 use Rattle.rules.specs.Private.{ofThread}
-use Rattle.rules.specs.Rules.{between, writable, allows, permits, sizeFits, isSetting, ruleOf, goodValue}
+use Rattle.rules.specs.Rules.{between, writable, scopeFor, allows, permits, sizeFits, isSetting, ruleOf, goodValue}
 
 pub or-false : (t : Bool) → t || false ≡ t
 or-false true = refl
@@ -98,15 +98,6 @@ permits-cases k id (Listed x) e = inr (x, refl, e)
 pub permits-listed : (k : Context) (id : ℕ) (x : Entry) → permits k id (Listed x) ≡ true → allows (k .usage) id x ≡ true
 unfolding permits
 permits-listed k id x e = e
-
--- the scope that a use is about
-abbrev pub scopeFor : Usage → Scope
-scopeFor GuestGet = Guest
-scopeFor GuestSet = Guest
-scopeFor ThreadGet = Thread
-scopeFor ThreadSet = Thread
-scopeFor RunInput = Thread
-scopeFor Effect = Thread
 
 same-scope : (s t : Scope) → sameScope s t ≡ true → t ≡ s
 same-scope Guest Guest e = refl

@@ -6,6 +6,7 @@ use lib.Dec.{leb, eqb}
 use Rattle.octets.specs.Bytes.{be}
 use Rattle.elements.specs.declared.Access.{Access}
 use Rattle.elements.specs.declared.Access.the-variants.{Read, Write, ReadWrite}
+use Rattle.elements.specs.declared.Scope.{Scope}
 use Rattle.elements.specs.declared.Scope.the-variants.{Guest, Thread}
 use Rattle.elements.specs.declared.Entry.{Entry}
 use Rattle.elements.specs.declared.Kind.{Kind}
@@ -29,6 +30,15 @@ abbrev pub writable : Access → Bool
 writable Read = false
 writable Write = true
 writable ReadWrite = true
+
+-- "6 if unlisted, of the wrong scope": the scope that a use is about
+abbrev pub scopeFor : Usage → Scope
+scopeFor GuestGet = Guest
+scopeFor GuestSet = Guest
+scopeFor ThreadGet = Thread
+scopeFor ThreadSet = Thread
+scopeFor RunInput = Thread
+scopeFor Effect = Thread
 
 -- "A run input takes what a thread set takes, except 0x0C00 and 0x0C01, answered 6 (house). An effect takes the NOP and any listed
 -- thread element of the right size except 0x0C00 to 0x0C02."

@@ -14,8 +14,8 @@ use Rattle.answer.specs.Refusals.{firstOf}
 use Rattle.rules.specs.declared.Usage.{Usage}
 use Rattle.rules.specs.declared.Usage.the-variants.{GuestGet, GuestSet, ThreadGet, ThreadSet, RunInput, Effect}
 use Rattle.rules.specs.declared.Context.{Context}
-use Rattle.elements.proofs.Table.{bytesOf}
-use Rattle.rules.proofs.Rules.{scopeFor}
+use Rattle.elements.specs.Right.{bytesOf}
+use Rattle.rules.specs.Rules.{scopeFor}
 use Rattle.gsb.specs.declared.Walked.{Walked}
 use Rattle.gsb.specs.declared.Walked.the-variants.{Done, Stopped}
 use Rattle.gsb.specs.Walk.{countOf, badLength, firstBad}

@@ -7,8 +7,8 @@ use native.Mathlib.Omega.{arith}
 use lib.Dec.{eqb}
 use lib.ListN.{length}
 use borrow.Author.Tests.{eq-eqb, eqb-true}
-use Rattle.octets.specs.Bytes.{put, digits}
-use Rattle.octets.proofs.Bytes.{right, length-put, length-bytesAt, read-other, put-inside}
+use Rattle.octets.specs.Bytes.{put, digits, right}
+use Rattle.octets.proofs.Bytes.{length-put, length-bytesAt, read-other, put-inside}
 use Rattle.octets.proofs.Numbers.{length-digits}
 use Rattle.octets.proofs.Bits.{front-putBits}
 use Rattle.store.specs.declared.Layout.{Layout}

@@ -11,9 +11,9 @@ use lib.Bits.{and-mod}
 use lib.Dec.{eqb, leb}
 use lib.ListN.{length}
 use borrow.Author.Tests.{eq-eqb, ne-eqb, le-leb, lt-ltb, leb-true, eqb-true, eqb-false}
-use Rattle.octets.specs.Bytes.{digits, zeros}
+use Rattle.octets.specs.Bytes.{digits, zeros, left}
 use Rattle.octets.specs.Bits.{bit, bits}
-use Rattle.octets.proofs.Bytes.{left, length-put}
+use Rattle.octets.proofs.Bytes.{length-put}
 use Rattle.octets.proofs.Numbers.{be-digits, length-digits}
 use Rattle.octets.proofs.Bits.{length-putBits, bits-beside, bits-one}
 use Rattle.store.specs.declared.Layout.{Layout}

@@ -12,7 +12,7 @@ use lib.Dec.{eqb, leb}
 use lib.ListN.{length}
 use borrow.Author.Tests.{le-leb, leb-true}
 use Rattle.octets.specs.Bits.{bit, bits, putBits}
-use Rattle.octets.proofs.Bytes.{Clear, left, right}
+use Rattle.octets.specs.Bytes.{Clear, left, right}
 use Rattle.octets.proofs.Bits.{bits-put, bits-put-other, bit-put-other, length-putBits, bits-one, bits-add, be-putBits}
 use Rattle.store.specs.declared.Layout.{Layout}
 use Rattle.store.specs.Layout.{Sound}

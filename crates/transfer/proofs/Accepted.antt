@@ -14,13 +14,14 @@ use Rattle.elements.specs.declared.Kind.{Kind}
 use Rattle.elements.specs.declared.Kind.the-variants.{Unlisted, Nop, Listed}
 use Rattle.rules.specs.declared.Context.{Context}
 use Rattle.elements.specs.Table.{table, below, isStored, position, sourceOf, find, kindOf}
-use Rattle.rules.specs.Rules.{permits, sizeFits}
-use Rattle.elements.proofs.Table.{entry-rule, listed-stored, listed-fixed, bytesOf, position-end}
-use Rattle.rules.proofs.Rules.{size-listed, permits-scope, scopeFor}
+use Rattle.rules.specs.Rules.{permits, sizeFits, scopeFor}
+use Rattle.elements.specs.Right.{bytesOf}
+use Rattle.elements.proofs.Table.{entry-rule, listed-stored, listed-fixed, position-end}
+use Rattle.rules.proofs.Rules.{size-listed, permits-scope}
 use Rattle.gsb.specs.declared.Walked.the-variants.{Done}
 use Rattle.gsb.specs.Walk.{countOf, idAt, sizeAt, offsetAt, firstBad}
 use Rattle.gsb.proofs.Judged.{good-element}
-use Rattle.gsb.proofs.First.{accepted-exactly}
+use Rattle.gsb.proofs.First.{all-good}
 use Rattle.transfer.specs.Transfer.{Fits, Moves, Ready, AllReady}
 
 -- the two fixed numbers have eight bytes
@@ -55,5 +56,5 @@ module _ (k : Context) (base len : ℕ) (room : base + bytesOf (scopeFor (k .usa
     where
       at : (i : ℕ) → i < countOf b → Ready base b (offsetAt b i) len
       at i l =
-          let g = good-element k b (offsetAt b i) (offsetAt b (i + 1)) (accepted-exactly k b .0 d i l) .0 in
+          let g = good-element k b (offsetAt b i) (offsetAt b (i + 1)) (all-good k b .0 d i l) .0 in
           record { header = g .header; inside = g .inside; moves = moves (idAt b (offsetAt b i)) (sizeAt b (offsetAt b i)) (kindOf (idAt b (offsetAt b i))) refl (g .permitted) (g .sized) }

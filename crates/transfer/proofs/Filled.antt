@@ -6,8 +6,8 @@ use Prim.Native.Nat.{ℕ, zero, suc, _+_, _≤_, _<_}
 use native.Mathlib.Numerals.{add-one}
 use native.Mathlib.Omega.{arith}
 use lib.ListN.{length, getD}
-use Rattle.octets.specs.Bytes.{be}
-use Rattle.octets.proofs.Bytes.{left, getD-put-other}
+use Rattle.octets.specs.Bytes.{be, left}
+use Rattle.octets.proofs.Bytes.{getD-put-other}
 use Rattle.octets.proofs.Numbers.{be-ext}
 use Rattle.elements.specs.declared.Kind.{Kind}
 use Rattle.elements.specs.declared.Kind.the-variants.{Unlisted, Nop, Listed}

@@ -17,9 +17,9 @@ use Rattle.elements.specs.declared.Kind.the-variants.{Listed}
 use Rattle.elements.specs.Table.{kindOf, position, numberOf, threadElement}
 use Rattle.elements.proofs.Table.{thread-stored, listed-stored, number-element}
 use Rattle.gsb.specs.Walk.{countOf, offsetAt}
-use Rattle.gsb.specs.Message.{message}
+use Rattle.gsb.specs.Message.{message, Begins, nthId, nthValue, Wire}
 use Rattle.gsb.proofs.Walks.{offset-start}
-use Rattle.gsb.proofs.RoundTrip.{Begins, begins-self, idIn, valueIn, Wire, wire-one, listed-fits, message-count, message-id, message-value, zeros-count, one-length}
+use Rattle.gsb.proofs.RoundTrip.{begins-self, wire-one, listed-fits, message-count, message-id, message-value, zeros-count, one-length}
 use Rattle.transfer.specs.Transfer.{putAs, applied, fillAs, filled}
 use Rattle.transfer.proofs.Moving.{put-stored, as-listed, fill-entry, fill-stored, length-putAs, apply-start, apply-turn}
 use Rattle.transfer.proofs.Filled.{fill-start, filled-more}
@@ -59,8 +59,8 @@ module _ (base : ℕ) (es : List (ℕ × List ℕ)) (b : List ℕ) (w : Wire es)
       ap (λ (n : ℕ). applied base b n s) (sym (add-one i))
       ∙ sym (apply-turn base b s i (offsetAt b i) (applied base b i s) _ refl refl refl)
       ∙ ap₂ (λ (id : ℕ) (v : List ℕ). putAs (kindOf id) base v (applied base b i s)) (message-id es b w begins i l) (message-value es b w begins i l)
-      ∙ ap (putAs (kindOf (idIn es i)) base (valueIn es i)) (applied-first i (omega arith))
-      ∙ sym (place-snoc base (take i es) (idIn es i) (valueIn es i) s)
+      ∙ ap (putAs (kindOf (nthId es i)) base (nthValue es i)) (applied-first i (omega arith))
+      ∙ sym (place-snoc base (take i es) (nthId es i) (nthValue es i) s)
       ∙ ap (λ (x : List (ℕ × List ℕ)). placeAll base x s) (sym (take-suc es i (0, []) l))
 
   pub applied-message : applied base b (countOf b) s ≡ placeAll base es s

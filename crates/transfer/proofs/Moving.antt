@@ -7,7 +7,7 @@ use native.Mathlib.Numerals.{add-one}
 use native.Mathlib.Omega.{arith}
 use lib.ListN.{length}
 use Rattle.octets.specs.Bytes.{bytesAt, put, be, digits}
-use Rattle.octets.proofs.Bytes.{length-put, length-bytesAt}
+use Rattle.octets.proofs.Bytes.{length-put, length-bytesAt, copy-part}
 use Rattle.octets.proofs.Numbers.{length-digits}
 use Rattle.elements.specs.declared.Access.{Access}
 use Rattle.elements.specs.declared.Scope.the-variants.{Thread}
@@ -72,6 +72,19 @@ module _ (kind : Kind) (base size len : ℕ) (x : Entry) (m : Moves kind base si
   pub moves-fits : Fits (x .source) base size len
   moves-fits = moves-both .1
 
+  -- the same by the listed size
+  pub listed-fits : Fits (x .source) base (x .size) len
+  listed-fits = subst (λ (n : ℕ). Fits (x .source) base n len) moves-size moves-fits
+
+  pub listed-inside : (at end : ℕ) → at + size ≤ end → at + x .size ≤ end
+  listed-inside at end h = omega (arith, moves-size)
+
+-- a value of 24 bytes in two pieces
+pub value-two : (d x y b : List ℕ) (to from size : ℕ) → x ≡ put d to (bytesAt b from 16) → y ≡ put x (to + 16) (bytesAt b (from + 16) 8) → size ≡ 24 → from + size ≤ length b
+    → y ≡ put d to (bytesAt b from size)
+value-two d x y b to from size p q e h =
+    copy-part d to b from x 16 y 8 p (omega arith) q ∙ ap (λ (n : ℕ). put d to (bytesAt b from n)) (sym e)
+
 module _ (kind : Kind) (base : ℕ) (v s : List ℕ) where
   pub as-unlisted : kind ≡ Unlisted → s ≡ putAs kind base v s
   unfolding putAs
@@ -98,10 +111,15 @@ module _ (kind : Kind) (base : ℕ) (s : List ℕ) (at : ℕ) (b : List ℕ) whe
   unfolding fillAs
   fill-entry x e = ap (λ (k : Kind). fillAs k base s at b) e
 
+  -- by the listed size
+  pub fill-as : (x : Entry) (t : List ℕ) → kind ≡ Listed x → t ≡ put b (at + 4) (readFrom (x .source) base (x .size) s) → t ≡ fillAs kind base s at b
+  unfolding fillAs
+  fill-as x t e h = h ∙ sym (ap (λ (k : Kind). fillAs k base s at b) e)
+
   pub fill-listed : (x : Entry) (size len : ℕ) (t : List ℕ) → Moves kind base size len → kind ≡ Listed x → t ≡ put b (at + 4) (readFrom (x .source) base size s) → t ≡ fillAs kind base s at b
   unfolding fillAs
   fill-listed x size len t m e h =
-      h ∙ ap (λ (n : ℕ). put b (at + 4) (readFrom (x .source) base n s)) (moves-size kind base size len x m e) ∙ sym (ap (λ (k : Kind). fillAs k base s at b) e)
+      fill-as x t e (h ∙ ap (λ (n : ℕ). put b (at + 4) (readFrom (x .source) base n s)) (moves-size kind base size len x m e))
 
 pub length-putAs : (kind : Kind) (base : ℕ) (v s : List ℕ) → length (putAs kind base v s) ≡ length s
 unfolding putAs putFrom

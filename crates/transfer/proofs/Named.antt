@@ -6,29 +6,29 @@ use Prim.Native.Nat.{ℕ, zero, suc, _+_, _≤_, _<_}
 use native.Mathlib.Decide.{decLt}
 use native.Mathlib.Omega.{arith}
 use lib.ListN.{length, getD}
-use lib.Seq.{ext-getD}
-use Rattle.octets.specs.Bytes.{bytesAt, put}
-use Rattle.octets.proofs.Bytes.{Clear, left, right, length-bytesAt, getD-bytesAt, getD-put-other}
+use Rattle.octets.specs.Bytes.{bytesAt, put, Clear, left, right}
+use Rattle.octets.proofs.Bytes.{length-bytesAt, part-ext, getD-put-other}
 use Rattle.elements.specs.declared.Source.{Source}
 use Rattle.elements.specs.declared.Source.the-variants.{Fixed, Stored}
 use Rattle.elements.specs.declared.Kind.{Kind}
 use Rattle.elements.specs.declared.Kind.the-variants.{Unlisted, Nop, Listed}
 use Rattle.rules.specs.declared.Context.{Context}
 use Rattle.elements.specs.Table.{kindOf}
-use Rattle.rules.specs.Rules.{permits, sizeFits}
-use Rattle.elements.proofs.Table.{bytesOf, position-end, source-stored}
-use Rattle.rules.proofs.Rules.{size-listed, permits-scope, scopeFor}
+use Rattle.rules.specs.Rules.{permits, sizeFits, scopeFor}
+use Rattle.elements.specs.Right.{bytesOf}
+use Rattle.elements.proofs.Table.{position-end, source-stored}
+use Rattle.rules.proofs.Rules.{size-listed, permits-scope}
 use Rattle.gsb.specs.declared.Walked.the-variants.{Done}
 use Rattle.gsb.specs.Walk.{countOf, idAt, sizeAt, nextAt, offsetAt, firstBad}
 use Rattle.gsb.proofs.Judged.{GoodElement, good-element}
-use Rattle.gsb.proofs.First.{accepted-exactly}
+use Rattle.gsb.proofs.First.{all-good}
 use Rattle.transfer.specs.Transfer.{valueAt, putFrom, putAs, applied, readFrom, fillAs, filled, Moves, AllReady}
 use Rattle.transfer.specs.Named.{Named, ValueByte}
 use Rattle.transfer.proofs.Moving.{length-read, length-applied}
 
 module _ (k : Context) (base : ℕ) (b : List ℕ) (d : firstBad k b ≡ Done) where
   good : (i : ℕ) → i < countOf b → GoodElement k b (offsetAt b i)
-  good i l = good-element k b (offsetAt b i) (offsetAt b (i + 1)) (accepted-exactly k b .0 d i l) .0
+  good i l = good-element k b (offsetAt b i) (offsetAt b (i + 1)) (all-good k b .0 d i l) .0
 
   -- one element stored
   element-frame : (i j : ℕ) (s : List ℕ) → i < countOf b → (Named base b (suc i) j → ⊥) → (kind : Kind) → kindOf (idAt b (offsetAt b i)) ≡ kind → sizeFits kind (sizeAt b (offsetAt b i)) ≡ true
@@ -73,15 +73,11 @@ module _ (k : Context) (base : ℕ) (b : List ℕ) (d : firstBad k b ≡ Done) w
       (omega (arith, m .from), omega (arith, m .below, st .1, e, z))
 
   -- so a part of the store beside those values is as it was
-  pub beside : (s : List ℕ) (i n : ℕ) → i + n ≤ length s → Clear base (bytesOf (scopeFor (k .usage))) i n → bytesAt (applied base b (countOf b) s) i n ≡ bytesAt s i n
-  beside s i n room c =
-      ext-getD 0 (bytesAt (applied base b (countOf b) s) i n) (bytesAt s i n) (len ∙ sym (length-bytesAt s i n room))
-      (λ j l. let m : j < n = omega (arith, len) in
-      getD-bytesAt (applied base b (countOf b) s) i n j m ∙ applied-frame (countOf b) (i + j) s (omega arith) (λ w. off j m c (named-within (countOf b) (i + j) (omega arith) w)) ∙ sym (getD-bytesAt s i n j m))
+  pub beside : (s : List ℕ) (i n : ℕ) → Clear base (bytesOf (scopeFor (k .usage))) i n → bytesAt (applied base b (countOf b) s) i n ≡ bytesAt s i n
+  beside s i n c =
+      part-ext (applied base b (countOf b) s) s i n (length-applied base b s (countOf b))
+      (λ j m. applied-frame (countOf b) (i + j) s (omega arith) (λ w. off j m c (named-within (countOf b) (i + j) (omega arith) w)))
     where
-      len : length (bytesAt (applied base b (countOf b) s) i n) ≡ n
-      len = length-bytesAt (applied base b (countOf b) s) i n (omega (arith, room, length-applied base b s (countOf b)))
-
       off : (j : ℕ) → j < n → Clear base (bytesOf (scopeFor (k .usage))) i n → (base ≤ i + j) × (i + j < base + bytesOf (scopeFor (k .usage))) → ⊥
       off j m (left q) w = omega (arith, w .1)
       off j m (right q) w = omega (arith, w .0)

@@ -2,11 +2,11 @@
 use elements::Kind;
 use elements::Source;
 use elements::kind_of;
+use elements::register_of;
 use octets::copy;
 use octets::get16;
 use octets::get32;
 use octets::put64;
-use rules::within;
 ghost use mathlib.Core.Path.{_≡_};
 ghost use Prim.Native.Nat.{_+_, _≤_};
 ghost use lib.ListN.{length};
@@ -34,7 +34,7 @@ fn fill_as(kind: Kind, store: &[u8], base: usize, b: &mut [u8], at: usize, size:
         Kind::Nop => {}
         Kind::Listed(x) => {
             let source = x.source;
-            fill_from(source, store, base, b, at + 4, size)
+            fill_from(source, store, base, b, at + 4, x.size)
         }
     }
 }
@@ -56,20 +56,13 @@ fn fill_element(store: &[u8], base: usize, b: &mut [u8], at: usize) -> usize
     requires { ⌜ Ready base (now b) at (length (now store)) ⌝ }
     ensures { λ r. ⌜ (r ≡ nextAt (now (b .entry)) at) × (now (b .exit) ≡ fillAs (kindOf (idAt (now (b .entry)) at)) base (now (store .entry)) at (now (b .entry))) ⌝ }
 {
-    let id = get16(b, at) as usize;
-    if within(0x1000, 0x1053, id as u64) {
-        copy(store, base + (40 + 8 * (id - 0x1000)), b, at + 4, 8);
-        return at + 12;
+    let x = register_of(get16(b, at));
+    if x.size == 0 {
+        return fill_other(store, base, b, at);
     }
-    if within(0x3000, 0x303F, id as u64) {
-        copy(store, base + (772 + 16 * (id - 0x3000)), b, at + 4, 16);
-        return at + 20;
-    }
-    if within(0x2000, 0x200E, id as u64) {
-        copy(store, base + (712 + 4 * (id - 0x2000)), b, at + 4, 4);
-        return at + 8;
-    }
-    fill_other(store, base, b, at)
+    copy(store, base + x.position, b, at + 4, x.size);
+    let step = 4 + x.size;
+    at + step
 }
 
 // The values that an accepted buffer asks for, filled in.

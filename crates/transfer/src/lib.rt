@@ -6,15 +6,15 @@ use answer::Place;
 use elements::Kind;
 use elements::Source;
 use elements::kind_of;
+use elements::register_of;
 pub use filling::fill;
 use octets::copy;
 use octets::get16;
 use octets::get32;
-use rules::within;
 ghost use mathlib.Core.Path.{_≡_};
 ghost use Prim.Native.Nat.{_+_, _≤_};
 ghost use lib.ListN.{length};
-ghost use Rattle.octets.specs.Bytes.{bytesAt};
+ghost use Rattle.octets.specs.Bytes.{bytesAt, put};
 ghost use Rattle.elements.specs.Table.{kindOf};
 ghost use Rattle.gsb.specs.Walk.{countOf, idAt, nextAt, offsetAt};
 ghost use Rattle.transfer.specs.Transfer.{valueAt, putFrom, putAs, applied, Fits, Moves, Ready, AllReady};
@@ -26,13 +26,25 @@ pub enum Step {
     Other,
 }
 
+// A value of 24 bytes in two copies of known sizes, as all others are.
+fn store_value(b: &[u8], from: usize, store: &mut [u8], to: usize, size: usize)
+    requires { ⌜ (from + size ≤ length (now b)) × (to + size ≤ length (now store)) ⌝ }
+    ensures { λ _. ⌜ now (store .exit) ≡ put (now (store .entry)) to (bytesAt (now (b .entry)) from size) ⌝ }
+{
+    if size == 24 {
+        copy(b, from, store, to, 16);
+        return copy(b, from + 16, store, to + 16, 8);
+    }
+    copy(b, from, store, to, size)
+}
+
 fn put_from(source: Source, store: &mut [u8], base: usize, b: &[u8], from: usize, size: usize)
     requires { ⌜ Fits source base size (length (now store)) × (from + size ≤ length (now b)) ⌝ }
     ensures { λ _. ⌜ now (store .exit) ≡ putFrom source base (bytesAt (now (b .entry)) from size) (now (store .entry)) ⌝ }
 {
     match source {
         Source::Fixed(_) => {}
-        Source::Stored(position) => copy(b, from, store, base + position, size),
+        Source::Stored(position) => store_value(b, from, store, base + position, size),
     }
 }
 
@@ -63,26 +75,18 @@ fn store_other(store: &mut [u8], base: usize, b: &[u8], at: usize) -> usize
     at + 4 + size
 }
 
-// Stores the element at `at` if it is in one of the three ranges of registers, by its listed size: the next element does not wait
-// for this one's.
+// Stores the element at `at` if it is a register, by its listed size: the next element does not wait for this one's.
 fn store_register(store: &mut [u8], base: usize, b: &[u8], at: usize) -> Step
     requires { ⌜ Ready base (now b) at (length (now store)) ⌝ }
     ensures { λ r. ⌜ Stepped r base (now (b .entry)) at (now (store .entry)) (now (store .exit)) ⌝ }
 {
-    let id = get16(b, at) as usize;
-    if within(0x1000, 0x1053, id as u64) {
-        copy(b, at + 4, store, base + (40 + 8 * (id - 0x1000)), 8);
-        return Step::Next(at + 12);
+    let x = register_of(get16(b, at));
+    if x.size == 0 {
+        return Step::Other;
     }
-    if within(0x3000, 0x303F, id as u64) {
-        copy(b, at + 4, store, base + (772 + 16 * (id - 0x3000)), 16);
-        return Step::Next(at + 20);
-    }
-    if within(0x2000, 0x200E, id as u64) {
-        copy(b, at + 4, store, base + (712 + 4 * (id - 0x2000)), 4);
-        return Step::Next(at + 8);
-    }
-    Step::Other
+    copy(b, at + 4, store, base + x.position, x.size);
+    let step = 4 + x.size;
+    Step::Next(at + step)
 }
 
 // The registers that follow one another from a place on, stored: a loop of their own is short.

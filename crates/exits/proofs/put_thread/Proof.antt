@@ -1,26 +1,17 @@
--- A register by its range (`register-..`), the rest by the element that the number names (`thread-..`).
+-- A register by its size and position (`register-..`), the rest by the element that the number names (`thread-..`).
+use Rattle.exits.proofs.Written.{register-fits, register-small, register-room, register-inside, register-next, register-put, thread-fits, thread-room, thread-inside, thread-small, thread-next, thread-put}
 use borrow.Author.Needs.{needs}
-use Rattle.exits.proofs.Written.{register-low, register-room, register-inside, register-next, register-put, thread-fits, thread-room, thread-inside, thread-small, thread-next, thread-put}
 use Rattle.exits.proofs.put_thread.Statement.{statement}
 use Rattle.exits.proofs.put_thread.Tie as tie
 
-within-requires : tie.Need-within-requires
-within-requires c κs = search needs
-
-sub-put-element : tie.Need-sub-put-element
-sub-put-element c = search (needs, register-low)
-
-mul-put-element : tie.Need-mul-put-element
-mul-put-element c = search needs
+register-of-requires : tie.Need-register-of-requires
+register-of-requires c κs = search needs
 
 add-put-element : tie.Need-add-put-element
-add-put-element c = search needs
-
-add-put-element-2 : tie.Need-add-put-element-2
-add-put-element-2 c = search needs
+add-put-element c = search (needs, register-fits)
 
 put-element-requires : tie.Need-put-element-requires
-put-element-requires c κs = (search (needs, register-room), search (needs, register-inside), search needs)
+put-element-requires c κs = (search (needs, register-room), search (needs, register-inside), search (needs, register-small))
 
 same-length : tie.Need-same-length
 same-length c = search needs
@@ -34,8 +25,8 @@ number-of-requires c κs = search needs
 thread-element-requires : tie.Need-thread-element-requires
 thread-element-requires c κs = search needs
 
-add-put-element-3 : tie.Need-add-put-element-3
-add-put-element-3 c = search (needs, thread-fits)
+add-put-element-2 : tie.Need-add-put-element-2
+add-put-element-2 c = search (needs, thread-fits)
 
 put-element-requires-2 : tie.Need-put-element-requires-2
 put-element-requires-2 c κs = (search (needs, thread-room), search (needs, thread-inside), search (needs, thread-small))
@@ -50,17 +41,14 @@ pub put-thread-spec : {M : Type 1} → statement M
 put-thread-spec =
     tie.close
     (tie.spec
-    within-requires
-    sub-put-element
-    mul-put-element
+    register-of-requires
     add-put-element
-    add-put-element-2
     put-element-requires
     same-length
     returns
     number-of-requires
     thread-element-requires
-    add-put-element-3
+    add-put-element-2
     put-element-requires-2
     same-length-2
     returns-2)

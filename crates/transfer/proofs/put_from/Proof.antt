@@ -11,11 +11,11 @@ enum-told c = search needs
 enum-known-source : tie.Need-enum-known-source
 enum-known-source c = search needs
 
-add-copy : tie.Need-add-copy
-add-copy c = omega (arith, fits-stored _ _ _ _ _ (c .before .before .before .before .before .before .pre .0) (c .before .before .source .given .1))
+add-store-value : tie.Need-add-store-value
+add-store-value c = omega (arith, fits-stored _ _ _ _ _ (c .before .before .before .before .before .before .pre .0) (c .before .before .source .given .1))
 
-copy-requires : tie.Need-copy-requires
-copy-requires c κs = (search needs, fits-stored _ _ _ _ _ (c .before .before .before .before .before .before .pre .0) (c .before .before .source .given .1))
+store-value-requires : tie.Need-store-value-requires
+store-value-requires c κs = (search needs, fits-stored _ _ _ _ _ (c .before .before .before .before .before .before .pre .0) (c .before .before .source .given .1))
 
 returns : tie.Need-returns
 returns c = search (needs, put-fixed)
@@ -29,4 +29,4 @@ returns-2 c = search (needs, put-stored)
 pub put-from-spec : {M : Type 1} → statement M
 put-from-spec =
     tie.close
-    (tie.spec enum-told enum-known-source add-copy copy-requires returns same-length returns-2)
+    (tie.spec enum-told enum-known-source add-store-value store-value-requires returns same-length returns-2)

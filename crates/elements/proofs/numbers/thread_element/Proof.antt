@@ -1,99 +1,88 @@
--- The elements of each long range are computed (`inside`). Assumes nothing.
-use Rattle.elements.proofs.Find.{inside}
-use Rattle.elements.specs.Table.{table, below, position, numbered, threadElement}
+-- A turn of the scan is one of `elementIn`, which tells what the table tells (`element-told`). Assumes nothing.
+use Rattle.elements.proofs.Scans.{range-upward, range-light, element-fits, element-room, element-end, element-here, element-next}
+use Rattle.elements.proofs.Told.{element-told}
+use Rattle.elements.specs.Table.{threadElement}
+use Rattle.elements.specs.Private.{rangesFrom, elementIn}
 use native.Mathlib.Omega.{arith}
-use mathlib.Core.Path.{refl}
-use Prim.Native.Nat.{ℕ, _+_, _-_, _*_}
+use mathlib.Core.Path.{_≡_, sym}
+use Prim.Native.Nat.{_-_, _*_, _≤_}
 use borrow.Author.Needs.{needs}
 use Rattle.elements.proofs.numbers.thread_element.Statement.{statement}
 use Rattle.elements.proofs.numbers.thread_element.Tie as tie
 
-low-element-requires : tie.Need-low-element-requires
-low-element-requires c κs = search needs
+abbrev Inv-loop : tie.InvT-loop
+Inv-loop e left₀ at₀ i₀ left at i = (i ≤ 16) × (left ≤ e) × (at ≤ 1024 * i) × (threadElement e ≡ elementIn (rangesFrom (16 - i) i) left at)
 
-returns : tie.Need-returns
-returns c = search needs
+abbrev μ-loop : tie.MeasureT-loop
+μ-loop e left₀ at₀ i₀ left at i = 16 - i
 
-add-t4 : tie.Need-add-t4
-add-t4 c = search needs
+loop-holds : tie.Need-loop-holds Inv-loop μ-loop
+loop-holds c = (search needs, search needs, search needs, sym (element-told _))
 
-cast-t5 : tie.Need-cast-t5
-cast-t5 c = search needs
+row-at-requires : tie.Need-row-at-requires Inv-loop μ-loop
+row-at-requires c κs = search needs
 
-mul-t7 : tie.Need-mul-t7
-mul-t7 c = search needs
+many-requires : tie.Need-many-requires Inv-loop μ-loop
+many-requires c κs = range-upward (c .before .before .loop .i) (c .row-at .result) (c .row-at .ensures) (omega arith)
 
-add-t8 : tie.Need-add-t8
-add-t8 c = search needs
+cast-t8 : tie.Need-cast-t8 Inv-loop μ-loop
+cast-t8 c = search needs
 
-returns-2 : tie.Need-returns-2
-unfolding threadElement numbered table position below
-returns-2 c =
-    inside threadElement
-    (λ (e : ℕ). record { id = 0x1000 + (e - 3); size = 8; position = 40 + 8 * (e - 3) }) 3 84 refl _ (omega arith) (omega arith)
+add-t9 : tie.Need-add-t9 Inv-loop μ-loop
+add-t9 c = search needs
 
-add-t10 : tie.Need-add-t10
-add-t10 c = search needs
+cast-t10 : tie.Need-cast-t10 Inv-loop μ-loop
+cast-t10 c = search needs
 
-cast-t11 : tie.Need-cast-t11
-cast-t11 c = search needs
+bytes-each-requires : tie.Need-bytes-each-requires Inv-loop μ-loop
+bytes-each-requires c κs = search needs
 
-mul-t13 : tie.Need-mul-t13
-mul-t13 c = search needs
+mul-t12 : tie.Need-mul-t12 Inv-loop μ-loop
+mul-t12 c = search (needs, element-fits)
 
-add-t14 : tie.Need-add-t14
-add-t14 c = search needs
+add-t13 : tie.Need-add-t13 Inv-loop μ-loop
+add-t13 c = search (needs, element-room)
 
-returns-3 : tie.Need-returns-3
-unfolding threadElement numbered table position below
-returns-3 c =
-    inside threadElement
-    (λ (e : ℕ). record { id = 0x2000 + (e - 87); size = 4; position = 712 + 4 * (e - 87) }) 87 15 refl _ (omega arith) (omega arith)
+returns : tie.Need-returns Inv-loop μ-loop
+returns c = search (needs, element-here)
 
-add-t16 : tie.Need-add-t16
-add-t16 c = search needs
+bytes-of-requires : tie.Need-bytes-of-requires Inv-loop μ-loop
+bytes-of-requires c κs = (range-upward (c .before .before .before .before .loop .i) (c .before .before .row-at .result) (c .before .before .row-at .ensures) (omega arith), range-light (c .before .before .before .before .loop .i) (c .before .before .row-at .result) (c .before .before .row-at .ensures) (omega arith))
 
-cast-t17 : tie.Need-cast-t17
-cast-t17 c = search needs
+add-at : tie.Need-add-at Inv-loop μ-loop
+add-at c = search needs
 
-mul-t19 : tie.Need-mul-t19
-mul-t19 c = search needs
+add-i : tie.Need-add-i Inv-loop μ-loop
+add-i c = search needs
 
-add-t20 : tie.Need-add-t20
-add-t20 c = search needs
+loop-less : tie.Need-loop-less Inv-loop μ-loop
+loop-less c = search needs
 
-returns-4 : tie.Need-returns-4
-unfolding threadElement numbered table position below
-returns-4 c =
-    inside threadElement
-    (λ (e : ℕ). record { id = 0x3000 + (e - 102); size = 16; position = 772 + 16 * (e - 102) }) 102 64 refl _ (omega arith) (omega arith)
+loop-again : tie.Need-loop-again Inv-loop μ-loop
+loop-again c = (search needs, search needs, search needs, search (needs, element-next))
 
-high-element-requires : tie.Need-high-element-requires
-high-element-requires c κs = search needs
-
-returns-5 : tie.Need-returns-5
-returns-5 c = search needs
+returns-2 : tie.Need-returns-2 Inv-loop μ-loop
+returns-2 c = search (needs, element-end)
 
 pub thread-element-spec : {M : Type 1} → statement M
 thread-element-spec =
     tie.close
     (tie.spec
-    low-element-requires
+    Inv-loop
+    μ-loop
+    loop-holds
+    row-at-requires
+    many-requires
+    cast-t8
+    add-t9
+    cast-t10
+    bytes-each-requires
+    mul-t12
+    add-t13
     returns
-    add-t4
-    cast-t5
-    mul-t7
-    add-t8
-    returns-2
-    add-t10
-    cast-t11
-    mul-t13
-    add-t14
-    returns-3
-    add-t16
-    cast-t17
-    mul-t19
-    add-t20
-    returns-4
-    high-element-requires
-    returns-5)
+    bytes-of-requires
+    add-at
+    add-i
+    loop-less
+    loop-again
+    returns-2)

@@ -1,6 +1,8 @@
 -- Each return is a law of `framed`, or what `frame_any` gives.
+use mathlib.Core.Path.{refl}
+use native.Mathlib.Omega.{arith}
 use borrow.Author.Needs.{needs}
-use Rattle.gsb.proofs.LookupLaws.{framed-eight, framed-sixteen}
+use Rattle.gsb.proofs.LookupLaws.{framed-known}
 use Rattle.gsb.proofs.lookups.frame.Statement.{statement}
 use Rattle.gsb.proofs.lookups.frame.Tie as tie
 
@@ -26,7 +28,7 @@ add-t9 : tie.Need-add-t9
 add-t9 c = search needs
 
 returns-2 : tie.Need-returns-2
-returns-2 c = search (needs, framed-eight)
+returns-2 c = search (needs, framed-known 8 0x80000 0x8FFFF 12 refl refl refl (omega arith))
 
 within-requires-2 : tie.Need-within-requires-2
 within-requires-2 c κs = search needs
@@ -35,7 +37,7 @@ add-t11 : tie.Need-add-t11
 add-t11 c = search needs
 
 returns-3 : tie.Need-returns-3
-returns-3 c = search (needs, framed-sixteen)
+returns-3 c = search (needs, framed-known 16 0x100000 0x10FFFF 20 refl refl refl (omega arith))
 
 frame-any-requires-2 : tie.Need-frame-any-requires-2
 frame-any-requires-2 c κs = search needs

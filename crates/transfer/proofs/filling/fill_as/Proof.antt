@@ -1,5 +1,5 @@
 -- By the kind: the laws `fill-..` of Moving.
-use Rattle.transfer.proofs.Moving.{moves-fits, fill-unlisted, fill-nop, fill-listed}
+use Rattle.transfer.proofs.Moving.{listed-fits, listed-inside, fill-unlisted, fill-nop, fill-as}
 use borrow.Author.Needs.{needs}
 use Rattle.transfer.proofs.filling.fill_as.Statement.{statement}
 use Rattle.transfer.proofs.filling.fill_as.Tie as tie
@@ -17,7 +17,7 @@ add-fill-from : tie.Need-add-fill-from
 add-fill-from c = search needs
 
 fill-from-requires : tie.Need-fill-from-requires
-fill-from-requires c κs = (search (needs, moves-fits), search needs)
+fill-from-requires c κs = (search (needs, listed-fits), search (needs, listed-inside))
 
 returns : tie.Need-returns
 returns c = search (needs, fill-unlisted)
@@ -29,7 +29,7 @@ same-length : tie.Need-same-length
 same-length c = search needs
 
 returns-3 : tie.Need-returns-3
-returns-3 c = search (needs, fill-listed)
+returns-3 c = search (needs, fill-as)
 
 pub fill-as-spec : {M : Type 1} → statement M
 fill-as-spec =
