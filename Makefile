@@ -4,30 +4,37 @@ CFLAGS = -std=c11 -Wall -Wextra -Wpedantic -O2 $(WERROR)
 PREFIX ?= /usr/local
 INCLUDEDIR ?= $(PREFIX)/include
 LIBDIR ?= $(PREFIX)/lib
-VERSION = 0.1
+BINDIR ?= $(PREFIX)/bin
+MANDIR ?= $(PREFIX)/share/man
+VERSION := $(shell sed -n 's/^\#define ADK_VERSION "\(.*\)"$$/\1/p' include/adderknot.h)
+VENDOR =
 ARGS =
 
 archive = target/staticlib/libadderknot.a
 bench = target/bench
-programs = $(addprefix $(bench)/,calls compare count example score speed)
-vendors = $(patsubst bench/mistakes/%.edit,$(bench)/vendor-%.so,$(wildcard bench/mistakes/*.edit))
-headers = include/adderknot.h $(wildcard bench/*.h)
+programs = $(addprefix $(bench)/,calls compare count example score score-vendor speed)
+vendors = $(patsubst bench/mistakes/%.edit,$(bench)/vendor-%.so,$(wildcard bench/mistakes/*.edit)) \
+    $(patsubst tests/score/hostile/%.c,$(bench)/hostile-%.so,$(wildcard tests/score/hostile/*.c)) \
+    $(bench)/model.so $(bench)/private.so
+headers = $(wildcard include/*.h bench/*.h)
 night = $(addprefix bench/,night.c gsb.c lent.c chance.c tell.c)
+scoring = $(addprefix bench/,account.c cover.c csv.c figures.c judge.c order.c page.c parts.c result.c sha256.c \
+    text.c vendor.c watch.c window.c)
 
 .PHONY: all bench run score speed counts figures listing test install uninstall clean tools help
-.PHONY: compiler
+.PHONY: browser compiler kit
 .DELETE_ON_ERROR:
 .PRECIOUS: $(bench)/vendor-%.c
 
 all: $(archive) ## prove the library and build target/staticlib/libadderknot.a
 
-bench: $(programs) $(bench)/model.so $(vendors) ## build the C programs, and vendors' libraries to try the score on
+bench: $(programs) $(vendors) ## build the C programs, and vendors' libraries to try the score on
 
 run: $(bench)/compare ## compare the library with the model, on two million calls
 	$(bench)/compare $(ARGS)
 
-score: $(bench)/score $(bench)/model.so ## score a vendor's library: make score ARGS='--vendor ./vendor.so'
-	$(bench)/score $(ARGS)
+score: $(bench)/score $(bench)/score-vendor $(bench)/model.so ## score a vendor's library: make score VENDOR=./vendor.so ARGS='--opaque --report score.html'
+	$(bench)/score $(if $(VENDOR),--vendor '$(VENDOR)') $(ARGS)
 
 speed: $(bench)/speed ## time the library against the model
 	$(bench)/speed $(ARGS)
@@ -38,40 +45,87 @@ counts: tools $(bench)/count ## count the instructions of library and model, or 
 figures: tools $(bench)/speed $(bench)/count ## write docs/FIGURES.md; LOG=FILE: what the gate printed, for the times of checks
 	bench/figures.sh $(LOG) > $(bench)/FIGURES.md && mv $(bench)/FIGURES.md docs/FIGURES.md
 
-listing: ## build the listing program and run it on the example of README.md
-	rt check listing
+listing: target/bin/listing ## build the listing program and run it on the example of README.md
 	tests/listing/raw tests/listing/example.hex | target/bin/listing
 
 test: ## the whole gate
 	.ci/run
 
-install: $(archive) ## install header, archive and adderknot.pc below PREFIX (/usr/local); DESTDIR and LIBDIR are heeded
-	install -d "$(DESTDIR)$(INCLUDEDIR)" "$(DESTDIR)$(LIBDIR)/pkgconfig"
-	install -m 644 include/adderknot.h "$(DESTDIR)$(INCLUDEDIR)/adderknot.h"
-	install -m 644 $(archive) "$(DESTDIR)$(LIBDIR)/libadderknot.a"
-	sed 's|@PREFIX@|$(PREFIX)|; s|@INCLUDEDIR@|$(INCLUDEDIR)|; s|@LIBDIR@|$(LIBDIR)|; s|@VERSION@|$(VERSION)|' \
-	    adderknot.pc.in > "$(DESTDIR)$(LIBDIR)/pkgconfig/adderknot.pc"
+# What install installs, as lines of mode, file and place.
+installed = \
+    644:include/adderknot.h:$(INCLUDEDIR)/adderknot.h \
+    644:include/adderknot_gsb.h:$(INCLUDEDIR)/adderknot_gsb.h \
+    644:$(archive):$(LIBDIR)/libadderknot.a \
+    644:$(bench)/adderknot.pc:$(LIBDIR)/pkgconfig/adderknot.pc \
+    755:$(bench)/score:$(BINDIR)/score \
+    755:$(bench)/score-vendor:$(BINDIR)/score-vendor \
+    755:target/bin/listing:$(BINDIR)/listing \
+    644:man/adderknot.3:$(MANDIR)/man3/adderknot.3 \
+    644:man/score.1:$(MANDIR)/man1/score.1 \
+    644:man/listing.1:$(MANDIR)/man1/listing.1
+
+# Of such a line, the file and the place.
+file_of = $(word 2,$(subst :, ,$1))
+place_of = $(DESTDIR)$(word 3,$(subst :, ,$1))
+
+install: $(foreach i,$(installed),$(call file_of,$i)) ## install headers, archive, programs and manual pages below PREFIX (/usr/local); DESTDIR is heeded
+	$(foreach i,$(installed),install -D -m $(firstword $(subst :, ,$i)) $(call file_of,$i) "$(call place_of,$i)" &&) true
 
 uninstall: ## remove what install installs
-	rm -f "$(DESTDIR)$(INCLUDEDIR)/adderknot.h" "$(DESTDIR)$(LIBDIR)/libadderknot.a" \
-	    "$(DESTDIR)$(LIBDIR)/pkgconfig/adderknot.pc"
+	rm -f $(foreach i,$(installed),"$(call place_of,$i)")
+
+$(bench)/adderknot.pc: adderknot.pc.in include/adderknot.h FORCE
+	mkdir -p $(bench)
+	sed 's|@PREFIX@|$(PREFIX)|; s|@INCLUDEDIR@|$(INCLUDEDIR)|; s|@LIBDIR@|$(LIBDIR)|; s|@VERSION@|$(VERSION)|' $< > $@
+
+FORCE:
 
 clean: ## remove all that was built, the proved crates too
 	rm -rf target
 
+# Installs these packages of Debian's if one of these commands is missing; a mirror may fail once.
+define need
+	@for tool in $1; do \
+	    command -v $$tool >/dev/null || missing=1; \
+	done; \
+	for try in 1 2 3; do \
+	    [ -n "$$missing" ] || exit 0; \
+	    apt-get update -qq && \
+	        DEBIAN_FRONTEND=noninteractive apt-get install -y -qq --no-install-recommends $2 >/dev/null && exit 0; \
+	    sleep 5; \
+	done; \
+	echo "make: cannot install $2" >&2; \
+	exit 1
+endef
+
+# Only the test of the page needs a browser, and it is large.
+browser:
+	$(call need,chromium,chromium)
+
 tools: compiler ## install from Debian's packages what the tests need and a fresh machine may lack
-	@command -v objdump >/dev/null && command -v pkg-config >/dev/null && command -v valgrind >/dev/null || \
-	    (apt-get update -qq && apt-get install -y -qq binutils pkg-config valgrind)
+	$(call need,objdump pkg-config valgrind xxd man g++,binutils pkg-config valgrind xxd man-db g++)
 
 compiler:
-	@command -v $(CC) >/dev/null || (apt-get update -qq && apt-get install -y -qq gcc libc6-dev)
+	$(call need,$(CC),gcc libc6-dev)
 
 help: ## this text
 	@awk -F ':.*## ' '/^[a-z]+:.*## / { printf "make %-10s %s\n", $$1, $$2 }' Makefile
 
-# rt leaves an archive alone whose sources are as they were, so its time is set here.
-$(archive): crates.txt $(shell find crates -name '*.rt' -o -name '*.antt') | compiler
+kit:
+	@command -v rt >/dev/null || { \
+	    echo "make: rt is missing. It is the command of the Rattle kit, which proves and compiles the library; install" \
+	        "the kit and put rt on the PATH. The model needs no kit: make $(bench)/model.so builds it." >&2; \
+	    exit 1; }
+
+# rt leaves alone what was built from sources that are as they were, so the times are set here.
+sources = crates.txt $(shell find crates -name '*.rt' -o -name '*.antt')
+
+$(archive): $(sources) | kit compiler
 	rt staticlib adderknot
+	touch $@
+
+target/bin/listing: $(sources) | kit
+	rt check listing
 	touch $@
 
 $(bench)/%: bench/%.c $(headers) $(archive)
@@ -81,8 +135,12 @@ $(bench)/%: bench/%.c $(headers) $(archive)
 $(bench)/calls $(bench)/compare $(bench)/count $(bench)/speed: bench/model.c
 $(bench)/count $(bench)/speed: bench/cases.c
 $(bench)/compare $(bench)/score: $(night)
-$(bench)/score: bench/vendor.c bench/cover.c
-$(bench)/score: LDLIBS = -ldl
+$(bench)/score: $(scoring)
+
+# The vendor's side of the score. Adderknot's library is not in it.
+$(bench)/score-vendor: bench/host.c bench/window.c $(filter-out bench/tell.c,$(night)) $(headers) | compiler
+	mkdir -p $(bench)
+	$(CC) $(CFLAGS) -Iinclude $(filter %.c,$^) -ldl -o $@
 
 # The example of README.md, as it stands there.
 $(bench)/example: README.md include/adderknot.h $(archive)
@@ -90,8 +148,9 @@ $(bench)/example: README.md include/adderknot.h $(archive)
 	awk '/^```c$$/ { on = !seen++; next } /^```$$/ { on = 0 } on' README.md > $@.c
 	$(CC) $(CFLAGS) -Iinclude $@.c $(archive) -o $@
 
-# The model under the names of adderknot.h: as it is, and with each of the mistakes.
-as_vendor = $(CC) $(CFLAGS) -shared -fPIC -Iinclude -Ibench -include bench/rename.h
+# The model under the names of adderknot.h: as it is, with each of the mistakes, hostile, and with a state of its own.
+shared = $(CC) $(CFLAGS) -shared -fPIC -Iinclude -Ibench
+as_vendor = $(shared) -include bench/rename.h
 
 $(bench)/model.so: bench/model.c $(headers) | compiler
 	mkdir -p $(bench)
@@ -103,3 +162,11 @@ $(bench)/vendor-%.c: bench/mistakes/%.edit bench/model.c bench/edit.awk
 
 $(bench)/vendor-%.so: $(bench)/vendor-%.c $(headers) | compiler
 	$(as_vendor) $< -o $@
+
+$(bench)/hostile-%.so: tests/score/hostile/%.c tests/score/hostile/hostile.h bench/model.c $(headers) | compiler
+	mkdir -p $(bench)
+	$(shared) $< -o $@
+
+$(bench)/private.so: bench/private.c bench/model.c $(headers) | compiler
+	mkdir -p $(bench)
+	$(shared) $(filter %.c,$^) -o $@

@@ -3,6 +3,7 @@
 
 #include "adderknot.h"
 
+#include <errno.h>
 #include <stdlib.h>
 #include <string.h>
 #include <time.h>
@@ -14,11 +15,19 @@ void seed_chance(uint64_t seed)
     chance_state = seed;
 }
 
+void seed_part(uint64_t seed, uint64_t part)
+{
+    chance_state = seed;
+    chance_state = any64() + part;
+    chance_state = any64();
+}
+
 bool read_number(const char *text, uint64_t *n)
 {
     char *end;
+    errno = 0;
     *n = strtoull(text, &end, 0);
-    return *text != '\0' && *text != '-' && *end == '\0';
+    return *text >= '0' && *text <= '9' && *end == '\0' && errno == 0;
 }
 
 bool read_seed(const char *text, uint64_t *seed)

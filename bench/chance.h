@@ -15,6 +15,9 @@
 
 void seed_chance(uint64_t seed);
 
+/* Numbers of their own for each part of what a seed makes, so that a part can be made without those before it. */
+void seed_part(uint64_t seed, uint64_t part);
+
 /* Reads a number, or as a seed also the word fresh: one that differs from run to run. */
 bool read_number(const char *text, uint64_t *n);
 bool read_seed(const char *text, uint64_t *seed);

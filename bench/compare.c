@@ -65,13 +65,11 @@ static int report(const struct run *r, const char *name, const struct call *c, c
                   const adk_found *mdl)
 {
     printf("failed compare %s\n  call %" PRIu64 ": ", name, r->number);
-    print_call(c);
-    for (int p = 0; p < PIECES; p++)
-        if (c->kind->use[p] != NOT_LENT)
-            print_piece(c, BEFORE, p, p == STORE ? HEADER : 512, "before the call");
-    print_answer("library", lib);
-    print_answer("model", mdl);
-    print_differing(c, lib->r3 != 0, "model", 1);
+    print_call(stdout, c);
+    print_lent(&(struct telling){ stdout, c, lib, mdl, "model", 40 }, HEADER);
+    print_answer(stdout, "library", lib);
+    print_answer(stdout, "model", mdl);
+    print_differing(stdout, c, lib->r3 != 0, "model", 1);
     printf("  to repeat: compare --seed 0x%" PRIX64 " --calls %" PRIu64 "\n", r->seed, r->number);
     return 1;
 }
@@ -79,7 +77,7 @@ static int report(const struct run *r, const char *name, const struct call *c, c
 /* What a call did is noted for the coverage. The element is one that was set, or whose value was refused. */
 static void note_edge(struct run *r, const uint8_t *element, bool good)
 {
-    unsigned id = (unsigned)load(element, 2);
+    unsigned id = (unsigned)adk_read_be(element, 2);
     for (size_t i = 0; i < EDGE_COUNT; i++) {
         const struct edge *e = &VALUE_EDGES[i];
         if (at_edge(e, id) && e->good == good && e->value == ruled_number(element + 4, id))
@@ -90,8 +88,8 @@ static void note_edge(struct run *r, const uint8_t *element, bool good)
 static void note_accepted(struct run *r, enum piece p, unsigned access)
 {
     const uint8_t *b = memory[BEFORE][p], *element = b + 4;
-    for (uint64_t left = load(b, 4); left > 0; left--, element = next_element(element)) {
-        r->used[load(element, 2)] |= (uint8_t)access;
+    for (uint64_t left = adk_read_be(b, 4); left > 0; left--, element = next_element(element)) {
+        r->used[adk_read_be(element, 2)] |= (uint8_t)access;
         if (access == W)
             note_edge(r, element, true);
     }
@@ -100,7 +98,7 @@ static void note_accepted(struct run *r, enum piece p, unsigned access)
 /* An element that was refused for its ID or its value, or in an effect for anything. */
 static void note_bad(struct run *r, size_t k, const uint8_t *element, unsigned access, bool value)
 {
-    const struct row *row = row_of((unsigned)load(element, 2));
+    const struct row *row = row_of((unsigned)adk_read_be(element, 2));
     if (value)
         note_edge(r, element, false);
     else if (row != NULL)
@@ -192,7 +190,7 @@ static int compare_call(struct run *r, const struct call *c, const adk_found *ex
     adk_found mdl = c->kind->make(&model, c, memory[OTHER]);
     if (expected != NULL && !same_answer(&lib, expected)) {
         report(r, "order", c, &lib, &mdl);
-        print_answer("expected", expected);
+        print_answer(stdout, "expected", expected);
         return 1;
     }
     if (!same_answer(&lib, &mdl))
@@ -300,7 +298,7 @@ static int compare_order(struct run *r)
 
 static int compare_mix(struct run *r)
 {
-    begin_night(false);
+    begin_night((struct manner){ .opaque = false });
     while (r->number++ < r->calls) {
         struct call c = next_call(r->number);
         if (compare_call(r, &c, NULL) != 0)
@@ -434,7 +432,7 @@ static bool runs_covered(const struct run *r)
 static int finish(const struct run *r)
 {
     if (!r->quiet)
-        print_tally(r->tally);
+        print_tally(stdout, r->tally, (struct manner){ .opaque = false });
     printf("passed compare agreement\npassed compare unchanged\npassed compare guards\npassed compare order\n");
     bool all = true;
     for (size_t k = 0; k < KIND_COUNT; k++)

@@ -1,43 +1,41 @@
 /* cover.c: see cover.h. */
 #include "cover.h"
 
-#include "tell.h"
-
-#include <inttypes.h>
-#include <stdio.h>
-
-/* The elements that are listed, the NOP apart. */
-enum { ELEMENTS = 176 };
-
-static const char *const WAY_NAME[WAYS] = { "set", "read", "effect", "returned" };
-static const char *const JUDGED_NAME[JUDGED] = { "get_state", "set_state", "run input", "run effect" };
+const char *const WAY_NAME[WAYS] = { "set", "read", "effect", "returned" };
+const char *const JUDGED_NAME[JUDGED] = { "get_state", "set_state", "run input", "run effect" };
 
 /* ---- Counting ---- */
 
-/* Counts the elements of an accepted buffer, or of an output; true if there was one other than the NOP. */
-static bool note_elements(struct cover *v, enum piece p, enum way way)
+/* Counts the elements of an accepted buffer, or of an output; true if there was one other than the NOP. end is where
+   the last one ends. */
+static bool note_elements(struct cover *v, enum piece p, enum way way, uint64_t *end)
 {
     const uint8_t *b = memory[LIBRARY][p], *element = b + 4;
     bool any = false;
-    for (uint64_t left = load(b, 4); left > 0; left--, element = next_element(element)) {
-        uint64_t id = load(element, 2);
+    for (uint64_t left = adk_read_be(b, 4); left > 0; left--, element = next_element(element)) {
+        uint64_t id = adk_read_be(element, 2);
         if (id != ADK_GSID_NOP) {
             v->elements[way][id]++;
             any = true;
         }
     }
+    *end = (uint64_t)(element - b);
     return any;
 }
 
 static void note_accepted(struct cover *v, enum judged j, enum piece p, enum way way)
 {
+    uint64_t end;
     v->accepted[j]++;
-    if (!note_elements(v, p, way))
+    if (!note_elements(v, p, way, &end))
         v->only_nops[j]++;
+    if (end > v->longest[j])
+        v->longest[j] = end;
 }
 
 void note_cover(struct cover *v, const struct call *c, const adk_found *f)
 {
+    uint64_t end;
     if (f->r3 < ANSWERS)
         v->answers[c->kind - KINDS][f->r3]++;
     if (f->r3 != ADK_OK)
@@ -49,14 +47,30 @@ void note_cover(struct cover *v, const struct call *c, const adk_found *f)
     if (is_run(c->kind)) {
         note_accepted(v, RUN_INPUT, INPUT, SET);
         note_accepted(v, RUN_EFFECT_BUFFER, EFFECT, WROTE);
-        note_elements(v, OUTPUT, RETURNED);
+        note_elements(v, OUTPUT, RETURNED, &end);
     }
 }
 
-/* ---- Telling ---- */
+static void add_numbers(uint64_t *to, const uint64_t *from, size_t n)
+{
+    for (size_t i = 0; i < n; i++)
+        to[i] += from[i];
+}
 
-/* Whether an element can be covered in this way. */
-static bool can_be(enum way way, unsigned id)
+void add_cover(struct cover *to, const struct cover *from)
+{
+    add_numbers(to->answers[0], from->answers[0], KIND_COUNT * ANSWERS);
+    add_numbers(to->elements[0], from->elements[0], WAYS * COUNT(to->elements[0]));
+    add_numbers(to->accepted, from->accepted, JUDGED);
+    add_numbers(to->only_nops, from->only_nops, JUDGED);
+    for (int j = 0; j < JUDGED; j++)
+        if (from->longest[j] > to->longest[j])
+            to->longest[j] = from->longest[j];
+}
+
+/* ---- Questions ---- */
+
+bool can_be(enum way way, unsigned id)
 {
     static const unsigned access[WAYS] = { [SET] = W | RUN_IN, [GOT] = R, [WROTE] = RUN_EFFECT };
     const struct row *row = row_of(id);
@@ -65,17 +79,17 @@ static bool can_be(enum way way, unsigned id)
     return row != NULL && (row->access & access[way]) != 0;
 }
 
-static bool is_covered(const struct cover *v, enum way way, unsigned id)
+bool is_covered(const struct cover *v, enum way way, unsigned id)
 {
     return v->elements[way][id] != 0;
 }
 
-static bool is_missed(const struct cover *v, enum way way, unsigned id)
+bool is_missed(const struct cover *v, enum way way, unsigned id)
 {
     return can_be(way, id) && !is_covered(v, way, id);
 }
 
-static unsigned how_many(const struct cover *v, enum way way, bool which(const struct cover *, enum way, unsigned))
+unsigned how_many(const struct cover *v, enum way way, id_test *which)
 {
     unsigned n = 0;
     for (unsigned id = 0; id <= 0xFFFF; id++)
@@ -83,35 +97,15 @@ static unsigned how_many(const struct cover *v, enum way way, bool which(const s
     return n;
 }
 
-/* The IDs, those that follow each other as one range. */
-static void print_ids(const struct cover *v, enum way way, bool which(const struct cover *, enum way, unsigned))
+static bool possible(const struct cover *v, enum way way, unsigned id)
 {
-    for (unsigned id = 0; id <= 0xFFFF; id++) {
-        unsigned last = id;
-        if (!which(v, way, id))
-            continue;
-        while (last < 0xFFFF && which(v, way, last + 1))
-            last++;
-        printf(" 0x%04X", id);
-        if (last != id)
-            printf("-0x%04X", last);
-        id = last;
-    }
-    printf("\n");
+    (void)v;
+    return can_be(way, id);
 }
 
-static void print_elements(const struct cover *v)
+unsigned how_many_can_be(enum way way)
 {
-    printf("%-12s %8s %8s   which\n", "elements", "covered", "missed");
-    for (enum way way = 0; way < WAYS; way++) {
-        unsigned missed = how_many(v, way, is_missed);
-        printf("%-12s %8u %8u  ", WAY_NAME[way], how_many(v, way, is_covered), missed);
-        print_ids(v, way, is_covered);
-        if (missed != 0) {
-            printf("%-30s  missed:", "");
-            print_ids(v, way, is_missed);
-        }
-    }
+    return how_many(NULL, way, possible);
 }
 
 static uint64_t sum(const uint64_t *of)
@@ -122,58 +116,17 @@ static uint64_t sum(const uint64_t *of)
     return n;
 }
 
-void print_cover(const struct cover *v)
+uint64_t all_accepted(const struct cover *v)
 {
-    print_tally(v->answers);
-    printf("\n");
-    print_elements(v);
-    printf("\n%-12s %8s %8s\n", "buffers", "accepted", "NOPs");
-    for (int j = 0; j < JUDGED; j++)
-        printf("%-12s %8" PRIu64 " %8" PRIu64 "\n", JUDGED_NAME[j], v->accepted[j], v->only_nops[j]);
+    return sum(v->accepted);
+}
+
+uint64_t all_only_nops(const struct cover *v)
+{
+    return sum(v->only_nops);
 }
 
 bool worth_nothing(const struct cover *v)
 {
     return how_many(v, SET, is_covered) == 0;
-}
-
-void print_worth(const struct cover *v)
-{
-    uint64_t accepted = sum(v->accepted), nops = sum(v->only_nops);
-    printf("worth: %s%u of %d elements set, %u read, %u returned; ", worth_nothing(v) ? "NOTHING: " : "",
-           how_many(v, SET, is_covered), ELEMENTS, how_many(v, GOT, is_covered), how_many(v, RETURNED, is_covered));
-    if (nops == accepted)
-        printf("all %" PRIu64 " accepted buffers held nothing but NOPs\n", accepted);
-    else
-        printf("%" PRIu64 " of %" PRIu64 " accepted buffers held nothing but NOPs\n", nops, accepted);
-}
-
-/* ---- Rows ---- */
-
-void csv_row(const char *section, const char *subject, const char *measure, uint64_t number)
-{
-    printf("%s,%s,%s,%" PRIu64 "\n", section, subject, measure, number);
-}
-
-void csv_cover(const struct cover *v)
-{
-    char text[16];
-    for (size_t k = 0; k < KIND_COUNT; k++)
-        for (unsigned a = 0; a < ANSWERS; a++)
-            if (KINDS[k].answers & A(a)) {
-                snprintf(text, sizeof text, "%u", a);
-                csv_row("answer", KINDS[k].name, text, v->answers[k][a]);
-            }
-    for (unsigned id = 0; id <= 0xFFFF; id++)
-        for (enum way way = 0; way < WAYS; way++)
-            if (can_be(way, id)) {
-                snprintf(text, sizeof text, "0x%04X", id);
-                csv_row("element", text, WAY_NAME[way], v->elements[way][id]);
-            }
-    for (int j = 0; j < JUDGED; j++) {
-        csv_row("buffers", JUDGED_NAME[j], "accepted", v->accepted[j]);
-        csv_row("buffers", JUDGED_NAME[j], "only NOPs", v->only_nops[j]);
-    }
-    for (enum way way = 0; way < WAYS; way++)
-        csv_row("worth", "elements", WAY_NAME[way], how_many(v, way, is_covered));
 }

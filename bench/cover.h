@@ -4,6 +4,9 @@
 
 #include "night.h"
 
+/* The elements that are listed, the NOP apart. */
+enum { ELEMENTS = 176 };
+
 /* How an element is covered: set by set state or a run's input, read by get state, written by a run's effect, returned
    in a run's output. */
 enum way { SET, GOT, WROTE, RETURNED, WAYS };
@@ -11,25 +14,40 @@ enum way { SET, GOT, WROTE, RETURNED, WAYS };
 /* The buffers that a call accepts or refuses. */
 enum judged { GET_BUFFER, SET_BUFFER, RUN_INPUT, RUN_EFFECT_BUFFER, JUDGED };
 
+extern const char *const WAY_NAME[WAYS], *const JUDGED_NAME[JUDGED];
+
 struct cover {
     uint64_t answers[KIND_COUNT][ANSWERS];
     uint64_t elements[WAYS][0x10000]; /* how often, by ID; the NOP is not counted */
     uint64_t accepted[JUDGED], only_nops[JUDGED];
+    uint64_t longest[JUDGED]; /* bytes of the longest accepted one, to the end of its last counted element */
 };
 
 /* Counts a call that was made on the library's side and answered so. */
 void note_cover(struct cover *v, const struct call *c, const adk_found *f);
 
+/* Adds what another part of the night covered. */
+void add_cover(struct cover *to, const struct cover *from);
+
+/* ---- Questions ---- */
+
+/* Whether an element can be covered in this way, was, and was not though it can be. */
+bool can_be(enum way way, unsigned id);
+bool is_covered(const struct cover *v, enum way way, unsigned id);
+bool is_missed(const struct cover *v, enum way way, unsigned id);
+
+typedef bool id_test(const struct cover *v, enum way way, unsigned id);
+
+unsigned how_many(const struct cover *v, enum way way, id_test *which);
+
+/* How many elements can be covered in this way. */
+unsigned how_many_can_be(enum way way);
+
+/* Of all buffers. */
+uint64_t all_accepted(const struct cover *v);
+uint64_t all_only_nops(const struct cover *v);
+
 /* No element was set: whatever agreed, it says nothing about the values that the calls are for. */
 bool worth_nothing(const struct cover *v);
-
-void print_cover(const struct cover *v);
-
-/* One line that begins with 'worth:'. */
-void print_worth(const struct cover *v);
-
-/* Rows of four fields: section, subject, measure, number. */
-void csv_row(const char *section, const char *subject, const char *measure, uint64_t number);
-void csv_cover(const struct cover *v);
 
 #endif

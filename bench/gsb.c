@@ -57,7 +57,7 @@ unsigned any_id(void)
 
 const uint8_t *next_element(const uint8_t *element)
 {
-    return element + 4 + load(element + 2, 2);
+    return element + 4 + adk_read_be(element + 2, 2);
 }
 
 /* ---- Values around each value rule ---- */
@@ -98,12 +98,12 @@ const struct edge VALUE_EDGES[] = {
 
 static uint64_t agreed(void)
 {
-    return load(memory[BEFORE][STORE], 8);
+    return adk_read_be(memory[BEFORE][STORE], 8);
 }
 
 uint64_t ruled_number(const uint8_t *value, unsigned id)
 {
-    return id == 0x0003 ? load(value, 4) : load(value + 8, 8);
+    return id == 0x0003 ? adk_read_be(value, 4) : adk_read_be(value + 8, 8);
 }
 
 bool at_edge(const struct edge *e, unsigned id)
@@ -121,9 +121,9 @@ void put_edge(uint8_t *value, unsigned id, bool good)
     if (chosen == NULL)
         return;
     if (id == 0x0003)
-        store_number(value, 4, chosen->value);
+        adk_write_be(value, 4, chosen->value);
     else
-        store_number(value + 8, 8, chosen->value);
+        adk_write_be(value + 8, 8, chosen->value);
 }
 
 /* ---- Guest state buffers ---- */
@@ -147,15 +147,15 @@ struct build begin_build(enum piece piece, unsigned access, bool wide)
 
 void put_count(struct build *g)
 {
-    store_number(g->b, 4, g->count);
+    adk_write_be(g->b, 4, g->count);
 }
 
 void add_element(struct build *g, unsigned id, unsigned size)
 {
     if (g->len + 4 + size > ADK_BUFFER_MAX)
         return;
-    store_number(g->b + g->len, 2, id);
-    store_number(g->b + g->len + 2, 2, size);
+    adk_write_be(g->b + g->len, 2, id);
+    adk_write_be(g->b + g->len + 2, 2, size);
     any_bytes(g->b + g->len + 4, size < 32 ? size : 32);
     g->len += 4 + size;
     g->count++;
@@ -350,12 +350,36 @@ static void build_all(struct build *g)
 }
 
 /* The greatest length, with as many elements as there is room for. */
-static void build_full(struct build *g)
+void build_full(struct build *g)
 {
     build_all(g);
     while (g->len + 4 + 24 <= ADK_BUFFER_MAX)
         add_good(g, taken_id(g));
     fill_up(g, ADK_GSID_NOP);
+    g->high = g->len;
+}
+
+/* Adds a run buffer: large enough for most inputs, as large as may be, or at an edge of its rule. */
+static void add_run_buffer(struct build *g, unsigned id)
+{
+    uint8_t *value = g->b + g->len + 4;
+    add_element(g, id, 16);
+    adk_write_be(value + 8, 8, ADK_BUFFER_MAX);
+    if (percent(70))
+        adk_write_be(value + 8, 8, ADK_RUN_OUTPUT_MIN + below(3000));
+    else if (percent(60))
+        put_edge(value, id, percent(80));
+}
+
+void build_registration(struct build *g)
+{
+    g->len = 4;
+    if (percent(95))
+        add_run_buffer(g, 0x0C00);
+    if (percent(95))
+        add_run_buffer(g, 0x0C01);
+    put_count(g);
+    g->high = g->len;
 }
 
 void build_state(struct build *g)

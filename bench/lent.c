@@ -8,7 +8,7 @@
 
 const char *const PIECE_NAME[PIECES] = { "store", "buffer", "input", "output", "effect" };
 
-static const size_t CAPACITY[PIECES] = {
+const size_t CAPACITY[PIECES] = {
     STORE_CAPACITY, BUFFER_CAPACITY, BUFFER_CAPACITY, BUFFER_CAPACITY, BUFFER_CAPACITY
 };
 
@@ -21,15 +21,20 @@ static size_t size_with_guards(int p)
 
 void make_memory(void)
 {
-    for (int p = 0; p < PIECES; p++) {
+    for (int p = 0; p < PIECES; p++)
         for (int s = 0; s < SIDES; s++) {
             uint8_t *m = malloc(size_with_guards(p));
             if (m == NULL)
                 exit(2);
             memory[s][p] = m + GUARD;
         }
+    fill_memory();
+}
+
+void fill_memory(void)
+{
+    for (int p = 0; p < PIECES; p++)
         any_bytes(memory[BEFORE][p] - GUARD, size_with_guards(p));
-    }
     share_all();
 }
 
@@ -62,20 +67,4 @@ bool guards_intact(enum piece p, enum side s, size_t n)
 {
     return memcmp(memory[s][p] - GUARD, memory[BEFORE][p] - GUARD, GUARD) == 0 &&
            memcmp(memory[s][p] + n, memory[BEFORE][p] + n, GUARD) == 0;
-}
-
-uint64_t load(const uint8_t *p, int n)
-{
-    uint64_t v = 0;
-    for (int i = 0; i < n; i++)
-        v = v << 8 | p[i];
-    return v;
-}
-
-void store_number(uint8_t *p, int n, uint64_t v)
-{
-    while (n-- > 0) {
-        p[n] = (uint8_t)v;
-        v >>= 8;
-    }
 }

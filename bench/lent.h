@@ -8,7 +8,7 @@
 #ifndef LENT_H
 #define LENT_H
 
-#include "adderknot.h"
+#include "adderknot_gsb.h"
 
 #include <stdbool.h>
 
@@ -33,10 +33,12 @@ enum {
 };
 
 extern const char *const PIECE_NAME[PIECES];
+extern const size_t CAPACITY[PIECES];
 extern uint8_t *memory[SIDES][PIECES];
 
-/* All pieces are made, filled by chance, and given back. */
+/* All pieces are made and filled by chance; filled again; and given back. */
 void make_memory(void);
+void fill_memory(void);
 void free_memory(void);
 
 /* Gives both sides the bytes that were written to BEFORE; or all that there is. */
@@ -47,9 +49,5 @@ bool same_bytes(enum piece p, enum side a, enum side b, size_t n);
 
 /* Whether what lies beside the first n bytes is as it was. */
 bool guards_intact(enum piece p, enum side s, size_t n);
-
-/* Numbers of n bytes, most significant first. */
-uint64_t load(const uint8_t *p, int n);
-void store_number(uint8_t *p, int n, uint64_t v);
 
 #endif

@@ -41,6 +41,10 @@ bool same_answer(const adk_found *a, const adk_found *b)
     return a->r3 == b->r3 && a->r4 == b->r4 && a->r5 == b->r5 && a->at == b->at && a->len == b->len;
 }
 
+/* ---- How the night is made ---- */
+
+static struct manner manner;
+
 /* ---- Numbers: mostly good ones, so that stores fill, and each edge ---- */
 
 unsigned word_of(uint64_t guest, unsigned vcpu)
@@ -50,7 +54,7 @@ unsigned word_of(uint64_t guest, unsigned vcpu)
 
 static unsigned slot_word(unsigned slot)
 {
-    return (unsigned)load(memory[BEFORE][STORE] + WORDS + 2 * slot, 2);
+    return (unsigned)adk_read_be(memory[BEFORE][STORE] + WORDS + 2 * slot, 2);
 }
 
 /* A used slot word, or 0 where chance finds none. */
@@ -150,9 +154,15 @@ static size_t wrong_length(void)
     return percent(80) ? WRONG_LENGTHS[below(COUNT(WRONG_LENGTHS))] : below(STORE_CAPACITY + 1);
 }
 
+/* A vendor that keeps its own state looks at no store, so it is lent no wrong one. */
+static void lend_store_mostly(struct call *c, unsigned good)
+{
+    c->len[STORE] = manner.opaque || percent(good) ? ADK_STORE_SIZE : wrong_length();
+}
+
 static void lend_store(struct call *c)
 {
-    c->len[STORE] = percent(95) ? ADK_STORE_SIZE : wrong_length();
+    lend_store_mostly(c, 95);
 }
 
 /* ---- What each call is given ---- */
@@ -160,7 +170,7 @@ static void lend_store(struct call *c)
 /* A fresh store ends a history, so it is mostly refused. */
 static void choose_fresh_store(struct call *c)
 {
-    c->len[STORE] = percent(10) ? ADK_STORE_SIZE : wrong_length();
+    lend_store_mostly(c, 10);
 }
 
 static void choose_get_capabilities(struct call *c)
@@ -204,7 +214,7 @@ static uint64_t any_timebase(uint64_t guest)
 {
     if (guest < 1 || guest > ADK_GUESTS || percent(40))
         return any_number();
-    uint64_t offset = load(memory[BEFORE][STORE] + HEADER + GUEST_SIZE * (guest - 1) + TB_OFFSET, 8);
+    uint64_t offset = adk_read_be(memory[BEFORE][STORE] + HEADER + GUEST_SIZE * (guest - 1) + TB_OFFSET, 8);
     return percent(50) ? 1 - offset - below(3) : offset;
 }
 
@@ -217,12 +227,10 @@ static void choose_guest_clock(struct call *c)
 
 /* ---- Guest state buffers that are lent ---- */
 
-static bool nops_alone;
-
 /* In a night of NOPs every buffer holds nothing else. */
 static void build(struct build *g, void (*usual)(struct build *g))
 {
-    if (nops_alone)
+    if (manner.only_nops)
         build_nops(g);
     else
         usual(g);
@@ -261,19 +269,27 @@ static void choose_vcpu(struct call *c)
         c->n[2] = alias(c->n[2], 11);
 }
 
+static struct call last_state;
+
+/* Where nobody writes a store, only a set state registers the run buffers of a vCPU. */
+static bool registers_now(const struct call *c)
+{
+    return manner.opaque && c->kind->access == W && !c->kind->wide && percent(40);
+}
+
 /* Of one target, with a new buffer or as the last such call was given and left it: so a get reads what a set has just
    set, and a set puts back what a get has read. */
 static void choose_state(struct call *c)
 {
-    static struct call last;
+    const struct call *last = &last_state;
     lend_store(c);
     if (percent(12)) {
-        *c = (struct call){ c->kind, { c->len[STORE], last.len[BUFFER] }, { 0, last.n[1], last.n[2] } };
+        *c = (struct call){ c->kind, { c->len[STORE], last->len[BUFFER] }, { 0, last->n[1], last->n[2] } };
     } else {
         struct build g = begin_build(BUFFER, c->kind->access, c->kind->wide);
         for (size_t i = 0; i < COUNT(g.id); i++)
             g.id[i] = taken_id(&g);
-        build(&g, build_state);
+        build(&g, registers_now(c) ? build_registration : build_state);
         lend(c, &g);
         choose_vcpu(c);
         if (c->kind->wide && percent(50))
@@ -282,7 +298,7 @@ static void choose_state(struct call *c)
     c->n[0] = any_flags(0) & ~ADK_GUEST_WIDE;
     if (c->kind->wide)
         c->n[0] |= ADK_GUEST_WIDE;
-    last = *c;
+    last_state = *c;
 }
 
 /* ---- What a run is given ---- */
@@ -335,12 +351,12 @@ static size_t registration_at(unsigned slot, unsigned id)
 
 uint64_t registered_size(unsigned slot, unsigned id)
 {
-    return load(memory[BEFORE][STORE] + registration_at(slot, id) + 8, 8);
+    return adk_read_be(memory[BEFORE][STORE] + registration_at(slot, id) + 8, 8);
 }
 
 void put_registered_size(unsigned slot, unsigned id, uint64_t size)
 {
-    store_number(memory[BEFORE][STORE] + registration_at(slot, id) + 8, 8, size);
+    adk_write_be(memory[BEFORE][STORE] + registration_at(slot, id) + 8, 8, size);
 }
 
 /* Registers a run buffer for so many bytes, or near that, at an edge, as anything, or leaves what set state set. Value
@@ -388,8 +404,10 @@ static void lend_run_buffers(struct call *c)
     c->len[OUTPUT] = output;
     if (slot == ADK_SLOTS)
         return;
-    register_buffer(slot, 0x0C00, input);
-    register_buffer(slot, 0x0C01, output);
+    if (!manner.opaque) {
+        register_buffer(slot, 0x0C00, input);
+        register_buffer(slot, 0x0C01, output);
+    }
     c->len[INPUT] = lent_length(registered_size(slot, 0x0C00), input);
     c->len[OUTPUT] = lent_length(registered_size(slot, 0x0C01), output);
 }
@@ -406,7 +424,7 @@ static void choose_run_vcpu(struct call *c)
         effect.id[i] = percent(60) ? output_id() : taken_id(&effect);
         input.id[i] = takes(RUN_IN, false, row_of(effect.id[i])) ? effect.id[i] : taken_id(&input);
     }
-    build(&input, build_run);
+    build(&input, manner.opaque && percent(5) ? build_full : build_run);
     lend(c, &input);
     build(&effect, build_run);
     lend(c, &effect);
@@ -417,7 +435,7 @@ static void choose_run_vcpu(struct call *c)
 
 void put_word(uint8_t *h, unsigned slot, unsigned w)
 {
-    store_number(h + WORDS + 2 * slot, 2, w);
+    adk_write_be(h + WORDS + 2 * slot, 2, w);
 }
 
 /* A word of this guest in any slot. */
@@ -457,7 +475,7 @@ static void full_house(uint8_t *h)
     for (unsigned i = 0; i < ADK_SLOTS; i++)
         put_word(h, i, word_of(1 + below(ADK_GUESTS), (first + i) % 2048));
     if (percent(60)) {
-        unsigned w = (unsigned)load(h + WORDS + 2 * below(ADK_SLOTS), 2);
+        unsigned w = (unsigned)adk_read_be(h + WORDS + 2 * below(ADK_SLOTS), 2);
         put_word(h, below(ADK_SLOTS), w);
     }
 }
@@ -527,8 +545,18 @@ static void stir_values(void)
 static void set_tb_offset(void)
 {
     size_t at = HEADER + GUEST_SIZE * below(ADK_GUESTS) + TB_OFFSET;
-    store_number(memory[BEFORE][STORE] + at, 8, any_number());
+    adk_write_be(memory[BEFORE][STORE] + at, 8, any_number());
     share(STORE, at, 8);
+}
+
+/* What happens to a store that is lent between two calls. */
+static void touch_store(void)
+{
+    damage_or_repair();
+    if (percent(4))
+        stir_values();
+    if (percent(4))
+        set_tb_offset();
 }
 
 /* ---- The table of calls ---- */
@@ -536,6 +564,7 @@ static void set_tb_offset(void)
 #define ON(name) .choose = choose_##name, .make = make_##name
 #define STATE(name) .choose = choose_state, .make = make_##name
 
+/* The first is the one that an episode begins with. */
 const struct kind KINDS[] = {
     { "fresh_store", ON(fresh_store), .use = { [STORE] = WRITTEN }, .weight = { 2, 2, 2 }, .answers = A(0) | A(1) },
     { "get_capabilities", ON(get_capabilities), .number = { "flags" }, .use = { [STORE] = READ },
@@ -579,6 +608,11 @@ bool is_run(const struct kind *k)
     return k->use[EFFECT] != NOT_LENT;
 }
 
+bool can_answer(const struct kind *k, int answer, struct manner m)
+{
+    return (k->answers & A(answer)) != 0 && !(m.opaque && answer == ADK_BAD_STORE);
+}
+
 /* What is called most often changes now and then, so that the store fills and empties. */
 static unsigned mood;
 
@@ -594,10 +628,12 @@ static const struct kind *any_kind(void)
 
 /* ---- The night ---- */
 
-void begin_night(bool only_nops)
+void begin_night(struct manner m)
 {
-    nops_alone = only_nops;
+    manner = m;
     mood = 0;
+    damaged_for = 0;
+    last_state = (struct call){ 0 };
     memset(memory[BEFORE][STORE], 0, ADK_STORE_SIZE);
     share(STORE, 0, ADK_STORE_SIZE);
 }
@@ -606,12 +642,9 @@ struct call next_call(uint64_t number)
 {
     if (number % 256 == 0)
         mood = below(MOODS);
-    damage_or_repair();
-    if (percent(4))
-        stir_values();
-    if (percent(4))
-        set_tb_offset();
-    struct call c = { any_kind(), { 0 }, { 0 } };
+    if (!manner.opaque)
+        touch_store();
+    struct call c = { manner.opaque && number == 1 ? KINDS : any_kind(), { 0 }, { 0 } };
     c.kind->choose(&c);
     return c;
 }

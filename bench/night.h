@@ -44,10 +44,19 @@ bool is_run(const struct kind *k);
    kept. */
 extern const uint64_t EXITS[EXIT_COUNT], NO_EXITS[NO_EXIT_COUNT];
 
-/* Begins with a fresh store. only_nops: every guest state buffer holds NOPs and nothing else. */
-void begin_night(bool only_nops);
+/* How a night is made. opaque: what is kept changes by calls only, from the fresh store that the first call asks for,
+   as a vendor needs it that keeps its own state. only_nops: every guest state buffer holds NOPs and nothing else. */
+struct manner {
+    bool opaque, only_nops;
+};
 
-/* The call of this number, and in BEFORE and on both sides what it is lent. */
+/* Whether a call can give an answer in such a night: where nothing is done to the store, it is always well formed. */
+bool can_answer(const struct kind *k, int answer, struct manner m);
+
+/* Begins with a fresh store. */
+void begin_night(struct manner m);
+
+/* The call of this number, from 1, and in BEFORE and on both sides what it is lent. */
 struct call next_call(uint64_t number);
 
 /* Lends what was built. */

@@ -5,55 +5,46 @@
 #include <stdio.h>
 #include <string.h>
 
-static const char *answer_name(uint64_t r3)
+void print_call(FILE *to, const struct call *c)
 {
-    static const char *const names[] = {
-        "success", "store not well formed", "unsupported flag", "bad parameter", "bad vCPU", "bad length",
-        "invalid element ID", "invalid element size", "invalid element value", "not enough resources", "vCPU exists",
-        "run buffer not registered", "lent too short", "unknown exit", "bad effect"
-    };
-    return r3 < COUNT(names) ? names[r3] : "no answer of a call";
-}
-
-void print_call(const struct call *c)
-{
-    printf("%s(", c->kind->name);
+    fprintf(to, "%s(", c->kind->name);
     for (int i = 0; i < NUMBERS && c->kind->number[i] != NULL; i++)
-        printf("%s%s 0x%" PRIX64, i == 0 ? "" : ", ", c->kind->number[i], c->n[i]);
-    printf(")\n");
+        fprintf(to, "%s%s 0x%" PRIX64, i == 0 ? "" : ", ", c->kind->number[i], c->n[i]);
+    fprintf(to, ")\n");
 }
 
-void print_piece(const struct call *c, enum side s, enum piece p, size_t most, const char *when)
+/* What is lent of a piece, at most so many bytes; lines that are as the one before are left out. */
+static void print_piece(FILE *to, const struct call *c, enum piece p, size_t most)
 {
     enum { LINE = 32 };
-    const uint8_t *b = memory[s][p];
+    const uint8_t *b = memory[BEFORE][p];
     size_t n = c->len[p] < most ? c->len[p] : most;
     bool repeated = false;
-    printf("  %s of %zu bytes %s:\n", PIECE_NAME[p], c->len[p], when);
+    fprintf(to, "  %s of %zu bytes before the call:\n", PIECE_NAME[p], c->len[p]);
     for (size_t at = 0; at < n; at += LINE) {
         size_t here = n - at < LINE ? n - at : LINE;
         bool again = at > 0 && here == LINE && memcmp(b + at, b + at - LINE, LINE) == 0;
         if (again && !repeated)
-            printf("    *\n");
+            fprintf(to, "    *\n");
         repeated = again;
         if (again)
             continue;
-        printf("    %5zu ", at);
+        fprintf(to, "    %5zu ", at);
         for (size_t i = 0; i < here; i++)
-            printf("%s%02X", i % 4 == 0 ? " " : "", b[at + i]);
-        printf("\n");
+            fprintf(to, "%s%02X", i % 4 == 0 ? " " : "", b[at + i]);
+        fprintf(to, "\n");
     }
     if (n < c->len[p])
-        printf("    .. and %zu bytes more\n", c->len[p] - n);
+        fprintf(to, "    .. and %zu bytes more\n", c->len[p] - n);
 }
 
-void print_answer(const char *who, const adk_found *f)
+void print_answer(FILE *to, const char *who, const adk_found *f)
 {
-    printf("  %s: r3 %" PRIu64 " (%s), r4 %" PRIu64 " (0x%" PRIX64 "), r5 %" PRIu64, who, f->r3, answer_name(f->r3),
-           f->r4, f->r4, f->r5);
+    fprintf(to, "  %s: r3 %" PRIu64 " (%s), r4 %" PRIu64 " (0x%" PRIX64 "), r5 %" PRIu64, who, f->r3,
+            adk_answer_name(f->r3), f->r4, f->r4, f->r5);
     if (f->at != 0 || f->len != 0)
-        printf(", at %" PRIu64 ", len %" PRIu64, f->at, f->len);
-    printf("\n");
+        fprintf(to, ", at %" PRIu64 ", len %" PRIu64, f->at, f->len);
+    fprintf(to, "\n");
 }
 
 /* The element whose value this byte is part of, in the values of a guest or a slot: they follow each other in order of
@@ -73,24 +64,24 @@ static unsigned element_at(size_t at, bool wide)
 }
 
 /* What a byte of a store is part of. */
-static void print_place(size_t at)
+static void print_place(FILE *to, size_t at)
 {
     size_t in_guests = at - HEADER, in_slots = at - SLOT_VALUES;
     if (at < LIVE)
-        printf(" (capabilities)");
+        fprintf(to, " (capabilities)");
     else if (at < WORDS)
-        printf(" (%s)", at == LIVE ? "live guests" : "zero byte");
+        fprintf(to, " (%s)", at == LIVE ? "live guests" : "zero byte");
     else if (at < HEADER)
-        printf(" (word of slot %zu)", (at - WORDS) / 2);
+        fprintf(to, " (word of slot %zu)", (at - WORDS) / 2);
     else if (at < SLOT_VALUES)
-        printf(" (guest %zu, 0x%04X)", in_guests / GUEST_SIZE + 1, element_at(in_guests % GUEST_SIZE, true));
+        fprintf(to, " (guest %zu, 0x%04X)", in_guests / GUEST_SIZE + 1, element_at(in_guests % GUEST_SIZE, true));
     else if (at < ADK_STORE_SIZE)
-        printf(" (slot %zu, 0x%04X)", in_slots / SLOT_SIZE, element_at(in_slots % SLOT_SIZE, false));
+        fprintf(to, " (slot %zu, 0x%04X)", in_slots / SLOT_SIZE, element_at(in_slots % SLOT_SIZE, false));
 }
 
 /* The differing bytes of one piece; told is how many are printed so far, of at most so many. */
-static unsigned print_differing_of(const struct call *c, enum piece p, bool refused, const char *other, unsigned told,
-                                   unsigned most)
+static unsigned print_differing_of(FILE *to, const struct call *c, enum piece p, bool refused, const char *other,
+                                   unsigned told, unsigned most)
 {
     bool fixed = refused || c->kind->use[p] == READ;
     long n = (long)extent(c, p);
@@ -99,28 +90,138 @@ static unsigned print_differing_of(const struct call *c, enum piece p, bool refu
         bool lent = i >= 0 && i < (long)c->len[p];
         if (lib == oth && (lib == was || (lent && !fixed)))
             continue;
-        printf("  %s byte %ld", PIECE_NAME[p], i);
+        fprintf(to, "  %s byte %ld", PIECE_NAME[p], i);
         if (!lent)
-            printf(" (outside)");
+            fprintf(to, " (outside)");
         else if (p == STORE)
-            print_place((size_t)i);
-        printf(": before %02X, library %02X, %s %02X\n", was, lib, other, oth);
+            print_place(to, (size_t)i);
+        fprintf(to, ": before %02X, library %02X, %s %02X\n", was, lib, other, oth);
         told++;
     }
     return told;
 }
 
-void print_differing(const struct call *c, bool refused, const char *other, unsigned most)
+void print_differing(FILE *to, const struct call *c, bool refused, const char *other, unsigned most)
 {
     unsigned told = 0;
     for (int p = 0; p < PIECES; p++)
         if (c->kind->use[p] != NOT_LENT)
-            told = print_differing_of(c, p, refused, other, told, most);
+            told = print_differing_of(to, c, p, refused, other, told, most);
     if (told == 0)
-        printf("  no byte differs\n");
+        fprintf(to, "  no byte differs\n");
 }
 
-static int highest_answer(void)
+/* ---- Guest state buffers, element by element ---- */
+
+/* Whether the answer names this element of the piece as the first bad one. */
+static bool names_element(const adk_found *f, enum piece p, const adk_element *e)
+{
+    if (f->r3 == ADK_BAD_EFFECT)
+        return p == EFFECT && f->r4 == e->offset;
+    if (f->r3 < ADK_INVALID_ELEMENT_ID || f->r3 > ADK_INVALID_ELEMENT_VALUE)
+        return false;
+    return (p == INPUT && f->r4 == e->offset) || (p == BUFFER && f->r4 == e->index);
+}
+
+static void print_element(FILE *to, const adk_element *e, size_t held, const char *remark)
+{
+    enum { SHOWN = 24 };
+    char name[ADK_NAME_SIZE];
+    fprintf(to, "    %5" PRIu32 " %6zu  0x%04X %-19s %5u  ", e->index, e->offset, (unsigned)e->id,
+            adk_element_name(e->id, name), (unsigned)e->size);
+    for (size_t i = 0; i < held && i < SHOWN; i++)
+        fprintf(to, "%02X", e->value[i]);
+    fprintf(to, "%s%s\n", held > SHOWN ? ".." : "", remark);
+}
+
+/* The element at the same place of another side; the size that is seen is held to what is lent. */
+static void print_theirs(FILE *to, const struct call *c, enum piece p, const adk_element *ours, const char *other)
+{
+    char remark[64];
+    adk_element e = *ours;
+    const uint8_t *at = memory[OTHER][p] + e.offset;
+    size_t left = c->len[p] - e.offset - 4;
+    e.id = (uint16_t)adk_read_be(at, 2);
+    e.size = (uint16_t)adk_read_be(at + 2, 2);
+    e.value = at + 4;
+    snprintf(remark, sizeof remark, "   <- %s", other);
+    print_element(to, &e, e.size < left ? e.size : left, remark);
+}
+
+/* What is said behind an element: that an answer names it, or that it is the library's where the sides differ. */
+static const char *remark_on(const struct telling *t, enum piece p, const adk_element *e, bool differs)
+{
+    static char remark[96];
+    bool ours = names_element(t->ours, p, e), theirs = t->theirs != NULL && names_element(t->theirs, p, e);
+    if (differs)
+        return "   <- library";
+    if (!ours && !theirs)
+        return "";
+    snprintf(remark, sizeof remark, "   <- %s%s%s", ours ? "library" : "", ours && theirs ? ", " : "",
+             theirs ? t->other : "");
+    return remark;
+}
+
+/* How the walk over the counted elements ended. */
+static void print_walk_end(FILE *to, const adk_gsb_reader *r)
+{
+    size_t left = r->len - r->offset;
+    if (r->index < r->count)
+        fprintf(to, "    %5" PRIu32 " %6zu  cut off by the end: %zu bytes are left\n", r->index, r->offset, left);
+    else if (left > 0)
+        fprintf(to, "    .. and %zu bytes behind the last counted element\n", left);
+}
+
+/* The elements of one side; after the call each at which the sides differ is shown of both. */
+static void print_elements(const struct telling *t, enum piece p, enum side s, const char *when)
+{
+    const struct call *c = t->call;
+    const uint8_t *b = memory[s][p];
+    adk_gsb_reader r;
+    adk_element e;
+    unsigned shown = 0, left_out = 0;
+    adk_gsb_open(&r, b, c->len[p]);
+    fprintf(t->to, "  %s of %zu bytes %s: count %" PRIu32 "\n", PIECE_NAME[p], c->len[p], when, r.count);
+    if (r.count > 0)
+        fprintf(t->to, "    %5s %6s  %-26s %5s  value\n", "index", "byte", "ID and name", "size");
+    while (adk_gsb_next(&r, &e)) {
+        bool differs = s != BEFORE && memcmp(b + e.offset, memory[OTHER][p] + e.offset, 4 + (size_t)e.size) != 0;
+        const char *remark = remark_on(t, p, &e, differs);
+        if (shown >= t->most && (*remark == '\0' || shown >= 2 * t->most)) {
+            left_out++;
+            continue;
+        }
+        print_element(t->to, &e, e.size, remark);
+        shown++;
+        if (differs)
+            print_theirs(t->to, c, p, &e, t->other);
+    }
+    if (left_out > 0)
+        fprintf(t->to, "    .. and %u elements more\n", left_out);
+    print_walk_end(t->to, &r);
+}
+
+void print_lent(const struct telling *t, size_t store_bytes)
+{
+    const struct call *c = t->call;
+    for (int p = 0; p < PIECES; p++) {
+        if (c->kind->use[p] == NOT_LENT)
+            continue;
+        if (p == STORE) {
+            print_piece(t->to, c, p, store_bytes);
+            continue;
+        }
+        if (p == OUTPUT)
+            fprintf(t->to, "  output of %zu bytes\n", c->len[p]);
+        else
+            print_elements(t, p, BEFORE, "before the call");
+        if (t->theirs != NULL &&
+            (!same_bytes(p, LIBRARY, BEFORE, c->len[p]) || !same_bytes(p, OTHER, BEFORE, c->len[p])))
+            print_elements(t, p, LIBRARY, "after the call");
+    }
+}
+
+int highest_answer(void)
 {
     int highest = 0;
     for (size_t k = 0; k < KIND_COUNT; k++)
@@ -130,20 +231,20 @@ static int highest_answer(void)
     return highest;
 }
 
-void print_tally(const uint64_t tally[KIND_COUNT][ANSWERS])
+void print_tally(FILE *to, const uint64_t tally[KIND_COUNT][ANSWERS], struct manner manner)
 {
     int highest = highest_answer();
-    printf("%-18s", "answer");
+    fprintf(to, "%-18s", "answer");
     for (int a = 0; a <= highest; a++)
-        printf("%8d", a);
-    printf("\n");
+        fprintf(to, "%8d", a);
+    fprintf(to, "\n");
     for (size_t k = 0; k < KIND_COUNT; k++) {
-        printf("%-18s", KINDS[k].name);
+        fprintf(to, "%-18s", KINDS[k].name);
         for (int a = 0; a <= highest; a++)
-            if (KINDS[k].answers & A(a))
-                printf("%8" PRIu64, tally[k][a]);
+            if (can_answer(&KINDS[k], a, manner))
+                fprintf(to, "%8" PRIu64, tally[k][a]);
             else
-                printf("%8s", "-");
-        printf("\n");
+                fprintf(to, "%8s", "-");
+        fprintf(to, "\n");
     }
 }

@@ -4,20 +4,35 @@
 
 #include "night.h"
 
+#include <stdio.h>
+
 /* The name of the call and its numbers. */
-void print_call(const struct call *c);
+void print_call(FILE *to, const struct call *c);
 
-/* What is lent of a piece, as a side has it, at most so many bytes; lines that are as the one before are left out. when
-   says what is shown. */
-void print_piece(const struct call *c, enum side s, enum piece p, size_t most, const char *when);
-
-void print_answer(const char *who, const adk_found *f);
+void print_answer(FILE *to, const char *who, const adk_found *f);
 
 /* The first bytes, at most so many, at which the sides differ from each other or, where the call may not write, from
    before; guards count as well. other names the other side. */
-void print_differing(const struct call *c, bool refused, const char *other, unsigned most);
+void print_differing(FILE *to, const struct call *c, bool refused, const char *other, unsigned most);
 
-/* How often each call gave each answer. */
-void print_tally(const uint64_t tally[KIND_COUNT][ANSWERS]);
+/* A call that is told, with both answers; theirs is NULL where the call did not return. Of a buffer at most so many
+   elements are shown, and as many again that an answer names or at which the sides differ. */
+struct telling {
+    FILE *to;
+    const struct call *call;
+    const adk_found *ours, *theirs;
+    const char *other;
+    unsigned most;
+};
+
+/* What was lent: of the store so many bytes; buffers by their elements, before the call and, where one of the sides
+   changed something, after it. */
+void print_lent(const struct telling *t, size_t store_bytes);
+
+/* The highest answer that any call can give. */
+int highest_answer(void);
+
+/* How often each call gave each answer, in a night of this manner. */
+void print_tally(FILE *to, const uint64_t tally[KIND_COUNT][ANSWERS], struct manner manner);
 
 #endif

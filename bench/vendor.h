@@ -1,19 +1,72 @@
 /*
- * vendor.h: a vendor's library, loaded while the program runs, and calls on it. It may be wrong in every way, so a call
- * that crashes or does not come back is told like any other mistake, and the night goes on.
+ * vendor.h: a vendor's library in a process of its own, and calls on it.
+ *
+ * The library may be wrong or hostile in every way: it may crash, hang, exit, fork, print, close descriptors, raise
+ * signals, or write over all memory that it reaches. Each is told as what it is, the process is started anew, and
+ * nothing of the score but a window of lent memory is in its reach: the process is another program (host.c). It is
+ * traced, so that a fork, a signal and the address of a fault are known; where tracing is forbidden, forks go unnoticed
+ * and the rest is told all the same.
  */
 #ifndef VENDOR_H
 #define VENDOR_H
 
-#include "night.h"
+#include "window.h"
 
-/* Loads the library. Where it is unfit, says why on standard error and gives back false. */
-bool load_vendor(const char *path, struct l0 *vendor);
+#include <sys/types.h>
 
-/* Makes the call with the memory of the other side. Gives back 0, or the number of the signal that ended it: SIGALRM
-   for a call that took longer than VENDOR_SECONDS. */
-enum { VENDOR_SECONDS = 5 };
+/* What may be wrong after a call, its answer apart; several may be at once. A new one has its name in WHAT_NAME. */
+enum what {
+    STORE_BYTES,
+    BUFFER_BYTES,
+    OUTSIDE,   /* memory that was not lent was written, or touched where that shows */
+    PRINTED,   /* something came on standard output */
+    CLOSED,    /* standard output was closed */
+    OVERWROTE, /* the desk was written over */
+    EXITED,
+    CRASHED,
+    SIGNALLED,
+    FORKED,
+    HUNG,
+    WHATS
+};
 
-int call_vendor(const struct l0 *vendor, const struct call *c, adk_found *found);
+extern const char *const WHAT_NAME[WHATS];
+
+/* After so many calls that did not return in time, the others get only this part of it: a vendor that hangs always
+   shall not hold up the night. */
+enum { PATIENCE = 3, IMPATIENCE = 10, NOTE_SIZE = 160 };
+
+struct vendor {
+    const char *path;
+    bool keeps_store;         /* what it knows is its own, and not in the lent store */
+    unsigned seconds;         /* how long a call may take */
+    const volatile int *stop; /* nonzero: the score is to stop, and waits no longer */
+    struct window window;
+    pid_t pid;                /* 0: there is no process */
+    int output;               /* what the process writes on standard output */
+    const uint8_t *base;      /* where it has the window */
+    uint32_t turn;            /* of the call that was posted last */
+    unsigned hung;            /* how many calls did not return in time */
+};
+
+/* How a call went. */
+struct deed {
+    bool made; /* false where the score was stopped before the call ended */
+    bool returned;
+    unsigned what;        /* bits of enum what */
+    char note[NOTE_SIZE]; /* what the process did, in words, if not only return */
+};
+
+/* Makes the window and starts the process. Where the library is unfit, says why on standard error. */
+bool open_vendor(struct vendor *v);
+void close_vendor(struct vendor *v);
+
+/* Starts the process if there is none. */
+bool start_vendor(struct vendor *v, char why[DESK_TEXT]);
+
+/* A call: begun, and then waited for. In between the score does what it has to do itself. The bytes that the vendor
+   left are then in OTHER. A process that did more than return is ended. */
+void post_call(struct vendor *v, const struct call *c);
+struct deed await_call(struct vendor *v, const struct call *c, adk_found *found);
 
 #endif

@@ -26,6 +26,9 @@
 extern "C" {
 #endif
 
+/* The version of the library, as pkg-config tells it. */
+#define ADK_VERSION "0.1"
+
 /* Bit n of 64, bit 0 the most significant. */
 #define ADK_BIT(n) (UINT64_C(1) << (63 - (n)))
 

@@ -9,7 +9,7 @@ failures=0
 
 # One case: its name, then the command that says whether it holds.
 check() {
-    name=$1
+    local name=$1
     shift
     if "$@"; then
         echo "passed $subject $name"

@@ -1,0 +1,115 @@
+/* text.c: the score as text, for a person at a terminal. */
+#include "result.h"
+
+#include "tell.h"
+
+#include <inttypes.h>
+
+/* ---- Disagreements ---- */
+
+static void print_told(FILE *to, const struct figures *f)
+{
+    for (unsigned i = 0; i < f->told_count; i++)
+        fprintf(to, "%s\n", f->told[i].text);
+}
+
+static void print_disagreements(FILE *to, const struct figures *f)
+{
+    static struct sight sights[SIGHTS_MOST];
+    size_t n = list_sights(f, sights);
+    if (n == 0)
+        return;
+    fprintf(to, "%-18s %-16s %8s %12s   %s\n", "disagreements", "differs in", "calls", "first call",
+            "R3: library -> vendor");
+    for (size_t i = 0; i < n; i++) {
+        unsigned ours, theirs;
+        char sort[KIND_TEXT];
+        name_sort(sights[i].sort, sort);
+        fprintf(to, "%-18s %-16s %8" PRIu64 " %12" PRIu64, KINDS[sights[i].call].name, sort, sights[i].seen->calls,
+                sights[i].seen->first);
+        if (is_pair(sights[i].sort, &ours, &theirs))
+            fprintf(to, "   %s -> %s%s", adk_answer_name(ours), adk_answer_name(theirs),
+                    ours == theirs ? ", with another R4, R5 or place" : "");
+        fprintf(to, "\n");
+    }
+    fprintf(to, "\n");
+}
+
+/* ---- Coverage ---- */
+
+/* The IDs, those that follow each other as one range. */
+static void print_ids(FILE *to, const struct cover *v, enum way way, id_test *which)
+{
+    for (unsigned id = 0; id <= 0xFFFF; id++) {
+        unsigned last = id;
+        if (!which(v, way, id))
+            continue;
+        while (last < 0xFFFF && which(v, way, last + 1))
+            last++;
+        fprintf(to, " 0x%04X", id);
+        if (last != id)
+            fprintf(to, "-0x%04X", last);
+        id = last;
+    }
+    fprintf(to, "\n");
+}
+
+static void print_elements(FILE *to, const struct cover *v)
+{
+    fprintf(to, "%-12s %8s %8s %8s   which\n", "elements", "covered", "can be", "missed");
+    for (enum way way = 0; way < WAYS; way++) {
+        unsigned missed = how_many(v, way, is_missed);
+        fprintf(to, "%-12s %8u %8u %8u  ", WAY_NAME[way], how_many(v, way, is_covered), how_many_can_be(way), missed);
+        print_ids(to, v, way, is_covered);
+        if (missed != 0) {
+            fprintf(to, "%-39s  missed:", "");
+            print_ids(to, v, way, is_missed);
+        }
+    }
+}
+
+static void print_buffers(FILE *to, const struct cover *v)
+{
+    fprintf(to, "\n%-12s %8s %8s %8s\n", "buffers", "accepted", "NOPs", "longest");
+    for (int j = 0; j < JUDGED; j++)
+        fprintf(to, "%-12s %8" PRIu64 " %8" PRIu64 " %8" PRIu64 "\n", JUDGED_NAME[j], v->accepted[j], v->only_nops[j],
+                v->longest[j]);
+}
+
+/* ---- The lines that sum it up ---- */
+
+static void print_agreed(FILE *to, const struct figures *f)
+{
+    fprintf(to, "\nagreed: %" PRIu64 " of %" PRIu64 " calls", f->agreed, f->made);
+    if (f->skipped != 0)
+        fprintf(to, "; %" PRIu64 " more were not made, since their part was left before", f->skipped);
+    fprintf(to, "\n");
+}
+
+static void print_worth(FILE *to, const struct cover *v)
+{
+    static const char *const can[WAYS] = { "settable elements set", "readable read", "in effects", "returned" };
+    uint64_t accepted = all_accepted(v), nops = all_only_nops(v);
+    fprintf(to, "worth: %s", worth_nothing(v) ? "NOTHING: " : "");
+    for (enum way way = 0; way < WAYS; way++)
+        fprintf(to, "%s%u of %u %s", way == 0 ? "" : ", ", how_many(v, way, is_covered), how_many_can_be(way),
+                can[way]);
+    if (nops == accepted)
+        fprintf(to, "; all %" PRIu64 " accepted buffers held nothing but NOPs\n", accepted);
+    else
+        fprintf(to, "; %" PRIu64 " of %" PRIu64 " accepted buffers held nothing but NOPs\n", nops, accepted);
+}
+
+void print_score(FILE *to, const struct result *r)
+{
+    const struct figures *f = r->figures;
+    print_told(to, f);
+    print_disagreements(to, f);
+    print_tally(to, f->cover.answers, r->order->manner);
+    fprintf(to, "\n");
+    print_elements(to, &f->cover);
+    print_buffers(to, &f->cover);
+    print_agreed(to, f);
+    print_worth(to, &f->cover);
+    fprintf(to, "verdict: %s, vendor %s\n", verdict_name(r->verdict), r->order->vendor);
+}

@@ -1,0 +1,14 @@
+/* babbles.c: prints without end while it is loaded. */
+#include "hostile.h"
+
+static void misbehave(const uint8_t *store, size_t store_len)
+{
+    (void)store;
+    (void)store_len;
+}
+
+__attribute__((constructor)) static void construct(void)
+{
+    for (;;)
+        puts("agreed: 200000 of 200000 calls");
+}

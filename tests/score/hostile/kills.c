@@ -1,0 +1,9 @@
+/* kills.c: ends the process that started it. */
+#include "hostile.h"
+
+static void misbehave(const uint8_t *store, size_t store_len)
+{
+    (void)store;
+    (void)store_len;
+    kill(getppid(), SIGKILL);
+}
