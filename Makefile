@@ -12,7 +12,7 @@ ARGS =
 
 archive = target/staticlib/libadderknot.a
 bench = target/bench
-programs = $(addprefix $(bench)/,calls compare count example score score-vendor speed)
+programs = $(addprefix $(bench)/,calls compare count example score score-vendor shallow speed)
 vendors = $(patsubst bench/mistakes/%.edit,$(bench)/vendor-%.so,$(wildcard bench/mistakes/*.edit)) \
     $(patsubst tests/score/hostile/%.c,$(bench)/hostile-%.so,$(wildcard tests/score/hostile/*.c)) \
     $(bench)/model.so $(bench)/private.so
@@ -42,7 +42,7 @@ speed: $(bench)/speed ## time the library against the model
 counts: tools $(bench)/count ## count the instructions of library and model, or of each function in a case: make counts ARGS=7
 	bench/counts.sh $(ARGS)
 
-figures: tools $(bench)/speed $(bench)/count ## write docs/FIGURES.md; LOG=FILE: what the gate printed, for the times of checks
+figures: tools $(bench)/speed $(bench)/count $(bench)/shallow ## write docs/FIGURES.md; LOG=FILE: what the gate printed, for the times of checks
 	bench/figures.sh $(LOG) > $(bench)/FIGURES.md && mv $(bench)/FIGURES.md docs/FIGURES.md
 
 listing: target/bin/listing ## build the listing program and run it on the example of README.md
@@ -134,7 +134,9 @@ $(bench)/%: bench/%.c $(headers) $(archive)
 
 $(bench)/calls $(bench)/compare $(bench)/count $(bench)/speed: bench/model.c
 $(bench)/count $(bench)/speed: bench/cases.c
-$(bench)/compare $(bench)/score: $(night)
+$(bench)/compare $(bench)/score $(bench)/shallow: $(night)
+# A first call through the dynamic linker would take its stack.
+$(bench)/shallow: LDLIBS = -Wl,-z,now
 $(bench)/score: $(scoring)
 
 # The vendor's side of the score. Adderknot's library is not in it.

@@ -61,5 +61,6 @@ Of one call, from its entry to its return, counted by valgrind's callgrind on th
 $(block "make -s counts")
 
 ## Stack
-$(block "bench/stack.sh target/staticlib/libadderknot.a")
+The deepest chain of calls from each exported function, return addresses included, from its machine code; the limit is 512 bytes.
+$(block 'bench/stack.sh target/staticlib/libadderknot.a 512 memset=$(target/bench/shallow --memset)')
 END

@@ -1,17 +1,20 @@
 #!/usr/bin/env bash
-# stack.sh FILE [LIMIT]: the stack frame of every function in an x86-64 archive, object file or program, from its
-# machine code. Fails if a frame is larger than LIMIT bytes (512), or if its size is not fixed.
+# stack.sh FILE [LIMIT] [NAME=BYTES..]: the stack that each exported function (adk_..) of an x86-64 archive takes with all
+# that it calls, return addresses included, from its machine code: the deepest chain of calls. Fails if a chain is deeper
+# than LIMIT bytes (512), or meets what can't be followed: a call through a pointer, recursion, a frame whose size is not
+# fixed, or a call that leaves the file. NAME=BYTES says what a function outside takes, its return address not counted.
 #
-# A frame is what the function itself takes: pushes, what is subtracted from the stack pointer, and what it uses below
-# it (the red zone). The return address is not part of it. For information the deepest chain of direct calls is told,
-# return addresses included; calls that leave the file or go through a pointer are named and not counted.
+# A frame is pushes, what is subtracted from the stack pointer, and what is used below it (the red zone).
 set -u
-if [ $# -lt 1 ] || [ $# -gt 2 ] || [ ! -r "$1" ]; then
-    echo "usage: stack.sh FILE [LIMIT]" >&2
+if [ $# -lt 1 ] || [ ! -r "$1" ]; then
+    echo "usage: stack.sh FILE [LIMIT] [NAME=BYTES..]" >&2
     exit 2
 fi
+file=$1
+limit=${2:-512}
+shift $(($# < 2 ? $# : 2))
 
-objdump -dr --no-show-raw-insn "$1" | LC_ALL=C awk -v limit="${2:-512}" '
+objdump -dr --no-show-raw-insn "$file" | LC_ALL=C awk -v limit="$limit" -v measured="$*" '
 # A hexadecimal number of 64 bits, signed. A negative one is read by its complement, since awk counts in doubles.
 function hex(s,    i, v, negative) {
     negative = length(s) == 16 && s ~ /^[89a-f]/
@@ -153,24 +156,34 @@ function plain_name(g) {
     return g
 }
 
-# The stack that a function takes with all that it calls.
+# Why the stack that a function takes is not known; empty where it is.
+function doubt(g, why) {
+    if (doubts[g] == "")
+        doubts[g] = plain_name(g) " " why
+}
+
+# The stack that a function takes with all that it calls, without its own return address.
 function deep(g,    i, c, d) {
     if (g in total)
         return total[g]
     if (g in visiting) {
-        recursive[g] = 1
+        doubt(g, "calls itself")
         return 0
     }
     visiting[g] = 1
     total_of[g] = frame[g]
     next_of[g] = ""
+    if (g in unfixed)
+        doubt(g, "has no fixed size (" unfixed[g] ")")
+    if (g in indirect)
+        doubt(g, "calls through a pointer")
     for (i = first[g]; i > 0; i = after[i]) {
         c = callee(i)
-        if (c == "") {
-            outside[plain_name(SUBSEP to[i])] = 1
-            continue
-        }
+        if (c == "")
+            c = outside(g, plain_name(SUBSEP to[i]))
         d = site[i] + deep(c)
+        if (doubts[g] == "")
+            doubts[g] = doubts[c]
         if (d > total_of[g]) {
             total_of[g] = d
             next_of[g] = c
@@ -179,6 +192,32 @@ function deep(g,    i, c, d) {
     delete visiting[g]
     total[g] = total_of[g]
     return total[g]
+}
+
+# A function outside the file, as one that takes what was measured.
+function outside(g, name,    c) {
+    c = SUBSEP name
+    if (!(name in took))
+        doubt(g, "calls " name ", which is not in the file")
+    total[c] = name in took ? took[name] : 0
+    met[name] = 1
+    return c
+}
+
+function chain(g,    text, seen) {
+    text = plain_name(g)
+    seen[g] = 1
+    for (g = next_of[g]; g != "" && !(g in seen); g = next_of[g]) {
+        text = text " > " plain_name(g)
+        seen[g] = 1
+    }
+    return text
+}
+
+BEGIN {
+    count = split(measured, pair, " ")
+    for (i = 1; i <= count; i++)
+        took[substr(pair[i], 1, index(pair[i], "=") - 1)] = substr(pair[i], index(pair[i], "=") + 1)
 }
 
 /file format/ {
@@ -247,37 +286,33 @@ END {
         first[from[i]] = i
     }
     failed = 0
-    largest = ""
-    deepest = ""
-    for (i = 1; i <= functions; i++) {
-        g = order[i]
-        printf "%6d  %s%s\n", frame[g], plain_name(g), (g in indirect) ? "  (calls through a pointer)" : ""
-        if (largest == "" || frame[g] > frame[largest])
-            largest = g
-        if (deepest == "" || deep(g) > deep(deepest))
-            deepest = g
-        if (g in unfixed) {
-            printf "failed stack %s: not a fixed size (%s)\n", plain_name(g), unfixed[g]
-            failed++
-        } else if (frame[g] > limit) {
-            printf "failed stack %s: %d bytes, over %d\n", plain_name(g), frame[g], limit
-            failed++
-        }
-    }
-    if (functions == 0 || foreign != "") {
+    exported = 0
+    deepest = 0
+    if (foreign != "") {
         print "failed stack: no x86-64 machine code"
         exit 1
     }
-    printf "deepest chain: %d bytes:", deep(deepest) + 8
-    for (g = deepest; g != ""; g = next_of[g])
-        printf "%s %s", g == deepest ? "" : " >", plain_name(g)
-    printf "\n"
-    for (g in recursive)
-        printf "recursive, so counted once: %s\n", plain_name(g)
-    for (name in outside)
-        printf "outside the file, not counted: %s\n", name
+    for (i = 1; i <= functions; i++) {
+        g = order[i]
+        if (plain_name(g) !~ /^adk_/)
+            continue
+        exported++
+        bytes = deep(g) + 8
+        printf "%6d  %s\n", bytes, chain(g)
+        if (bytes > deepest)
+            deepest = bytes
+        if (doubts[g] != "" || bytes > limit) {
+            printf "failed stack %s: %s\n", plain_name(g), doubts[g] != "" ? doubts[g] : bytes " bytes, over " limit
+            failed++
+        }
+    }
+    for (name in met)
+        printf "outside the file: %s, %s bytes as measured\n", name, name in took ? took[name] : "?"
+    if (exported == 0) {
+        print "failed stack: no exported function"
+        failed++
+    }
     if (failed == 0)
-        printf "passed stack: %d functions, largest frame %d of %d bytes (%s)\n", functions, frame[largest], limit,
-            plain_name(largest)
+        printf "passed stack: %d exported functions, the deepest chain of calls takes %d of %d bytes\n", exported, deepest, limit
     exit failed > 0
 }'

@@ -15,6 +15,7 @@
  *   what is lent through a pointer to const.
  * - Where several refusals apply, the first one in the order that the function's comment gives is the answer.
  * - Bits are numbered as in Power: bit 0 is the most significant of 64. ADK_BIT(n) is bit n.
+ * - A call takes 512 bytes of stack at most, return addresses included, beside what the caller pushes as arguments.
  */
 #ifndef ADDERKNOT_H
 #define ADDERKNOT_H

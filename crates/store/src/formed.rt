@@ -1,4 +1,6 @@
-// Whether a store is well formed. Slot words are read from the lent store one at a time.
+// Whether a store is well formed. L3, "Less stack on the service processor": slot words are read from the lent store, and no array of
+// them is kept. A function here, and all that it calls, has two of them at once at most: the one that is tested, and one that it is
+// compared with.
 use super::Layout;
 use super::header::is_live;
 use super::header::slot_word;
@@ -55,6 +57,7 @@ fn slot_good(s: &[u8], l: Layout, a: usize) -> bool
     times(s, l, w) == 1
 }
 
+// L3: the test of the slot words keeps no array of them in a local, a parameter or a result, nor more than two at once.
 fn words_good(s: &[u8], l: Layout) -> bool
     requires { ⌜ Sound l × (length (now s) ≡ l .size) ⌝ }
     ensures { λ r. ⌜ r ≡ wordsGood l (header l (now (s .entry))) ⌝ }
