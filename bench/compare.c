@@ -14,7 +14,8 @@
  *     coverage    each call gave each answer that it can give, 2 with each unsupported bit as r4, and no other; each
  *                 element was read and set where its access permits and refused where not, in a run's input and effect
  *                 too; each edge of a value rule, of a buffer's length and of a registered size was met; each exit was
- *                 accepted, and numbers close to one were refused
+ *                 accepted, and numbers close to one were refused; the clock was asked for each pair of a TB offset and
+ *                 a timebase at their edges
  *
  * The run ends at the first difference.
  */
@@ -43,6 +44,7 @@ struct run {
     bool registered[EDGE_COUNT];            /* the same of sizes that a run met */
     bool lent[2][3];                        /* of input and output: one byte short, as registered, one more */
     bool exits[EXIT_COUNT], no_exits[NO_EXIT_COUNT];
+    bool clocks[OFFSET_COUNT][TIMEBASE_COUNT]; /* which pairs the clock was told for */
 };
 
 static const size_t LENGTHS[] = { 0, 1, 2, 3, 4, 5, 6, 7, 8, ADK_BUFFER_MAX - 1, ADK_BUFFER_MAX, ADK_BUFFER_MAX + 1 };
@@ -158,6 +160,15 @@ static void note_run(struct run *r, const struct call *c, const adk_found *f)
         r->no_exits[i] |= f->r3 == ADK_UNKNOWN_EXIT && c->n[3] == NO_EXITS[i];
 }
 
+/* A clock that was told, so the guest is one. */
+static void note_clock(struct run *r, const struct call *c)
+{
+    uint64_t offset = tb_offset(c->n[0]);
+    for (size_t o = 0; o < OFFSET_COUNT; o++)
+        for (size_t t = 0; t < TIMEBASE_COUNT; t++)
+            r->clocks[o][t] |= offset == TB_OFFSETS[o] && c->n[1] == TIMEBASES[t];
+}
+
 /* The length that 5 or, in a run, 14 judged; or one that is no edge. */
 static size_t judged_length(const struct call *c, const adk_found *f)
 {
@@ -181,6 +192,8 @@ static void note(struct run *r, const struct call *c, const adk_found *f)
         note_state(r, c, f);
     else if (is_run(c->kind))
         note_run(r, c, f);
+    else if (is_clock(c->kind) && f->r3 == ADK_OK)
+        note_clock(r, c);
 }
 
 /* One call on both sides; 0 if nothing differs. expected is the answer, or NULL where only the model tells it. */
@@ -429,6 +442,19 @@ static bool runs_covered(const struct run *r)
     return all;
 }
 
+static bool clocks_covered(const struct run *r)
+{
+    bool all = true;
+    for (size_t o = 0; o < OFFSET_COUNT; o++)
+        for (size_t t = 0; t < TIMEBASE_COUNT; t++)
+            if (!r->clocks[o][t]) {
+                printf("  guest_clock was never told with offset 0x%" PRIX64 " and timebase 0x%" PRIX64 "\n",
+                       TB_OFFSETS[o], TIMEBASES[t]);
+                all = false;
+            }
+    return all;
+}
+
 static int finish(const struct run *r)
 {
     if (!r->quiet)
@@ -441,6 +467,7 @@ static int finish(const struct run *r)
     all = refusals_covered(r) && all;
     all = edges_covered(r) && all;
     all = runs_covered(r) && all;
+    all = clocks_covered(r) && all;
     printf("%s compare coverage\n", all ? "passed" : "failed");
     return all ? 0 : 1;
 }

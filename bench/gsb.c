@@ -126,6 +126,17 @@ void put_edge(uint8_t *value, unsigned id, bool good)
         adk_write_be(value + 8, 8, chosen->value);
 }
 
+/* ---- TB offsets ---- */
+
+const uint64_t TB_OFFSETS[] = {
+    0, 1, TB_STEP - 1, TB_STEP, TB_STEP + 1, -TB_STEP - 1, -TB_STEP, 1 - TB_STEP, UINT64_MAX
+};
+
+uint64_t any_tb_offset(void)
+{
+    return percent(75) ? TB_OFFSETS[below(OFFSET_COUNT)] : any_number();
+}
+
 /* ---- Guest state buffers ---- */
 
 static unsigned any_size(void)
@@ -290,14 +301,19 @@ unsigned taken_id(const struct build *g)
     }
 }
 
-/* Adds an element of this size; where a rule judges its value, an edge of the rule. */
+/* Adds an element of this size; where a rule judges its value, an edge of the rule; where the clock rounds it, mostly
+   an edge of the rounding. */
 static void add_value(struct build *g, unsigned id, unsigned size, bool good)
 {
     uint8_t *value = g->b + g->len + 4;
     uint32_t before = g->count;
     add_element(g, id, size);
-    if (g->count != before && (id == 0x0003 ? size >= 4 : (id == 0x0C00 || id == 0x0C01) && size >= 16))
+    if (g->count == before)
+        return;
+    if (id == 0x0003 ? size >= 4 : (id == 0x0C00 || id == 0x0C01) && size >= 16)
         put_edge(value, id, good);
+    if (id == 0x0004 && size == 8)
+        adk_write_be(value, 8, any_tb_offset());
 }
 
 /* An element that the call takes, of the listed size and with a good value. */
@@ -368,7 +384,7 @@ static void add_run_buffer(struct build *g, unsigned id)
     if (percent(70))
         adk_write_be(value + 8, 8, ADK_RUN_OUTPUT_MIN + below(3000));
     else if (percent(60))
-        put_edge(value, id, percent(80));
+        put_edge(value, id, percent(50));
 }
 
 void build_registration(struct build *g)

@@ -54,6 +54,18 @@ bool at_edge(const struct edge *e, unsigned id);
 /* Puts an edge into a value that a rule judges, a good one if it is to be good. Each has the same chance. */
 void put_edge(uint8_t *value, unsigned id, bool good);
 
+/* ---- TB offsets ---- */
+
+/* The clock uses an offset rounded up to a multiple of this. */
+#define TB_STEP (UINT64_C(1) << 24)
+
+/* Offsets around which the rounding changes. */
+enum { OFFSET_COUNT = 9 };
+extern const uint64_t TB_OFFSETS[OFFSET_COUNT];
+
+/* One of these, or any. */
+uint64_t any_tb_offset(void);
+
 /* ---- Buffers ---- */
 
 /* A buffer under construction in BEFORE; high is the end of what was written. Elements take their IDs from a few, so

@@ -1,6 +1,6 @@
 /*
- * model.c: the rules of document 01 in plain C. It shares no text with the library, so that a mistake in either shows
- * as a difference. Quoted names are sections of 01.
+ * model.c: the rules of document 01, and of the requests of 02, in plain C. It shares no text with the library, so that
+ * a mistake in either shows as a difference. Quoted names are sections of 01.
  */
 #include "model.h"
 
@@ -581,14 +581,24 @@ adk_answer mdl_delete_guest(uint8_t *store, size_t store_len, uint64_t flags, ui
     return answer(0, 0);
 }
 
-/* "The store", the guest clock: the sum of the timebase and 0x0004 wraps at 2^64. It answers 1, then 3. */
+/* 02, L2: the smallest multiple of 2^24 that is not below the offset. Where that is 2^64 it is 0. */
+static uint64_t rounded_up(uint64_t offset)
+{
+    const uint64_t step = UINT64_C(1) << 24;
+    uint64_t past = offset % step;
+    return past == 0 ? offset : offset - past + step;
+}
+
+/* "The store", the guest clock: the sum of the timebase and 0x0004, rounded up by 02, L2, wraps at 2^64. It answers 1,
+   then 3. The offset that is kept stays as it was set. */
 adk_answer mdl_guest_clock(const uint8_t *store, size_t store_len, uint64_t guest, uint64_t timebase)
 {
     if (!well_formed(store, store_len))
         return answer(1, 0);
     if (!live(store, guest))
         return answer(3, 0);
-    return answer(0, timebase + load64(store + GUEST_VALUES + GUEST_SIZE * (guest - 1) + TB_OFFSET));
+    uint64_t offset = load64(store + GUEST_VALUES + GUEST_SIZE * (guest - 1) + TB_OFFSET);
+    return answer(0, timebase + rounded_up(offset));
 }
 
 /*

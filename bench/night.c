@@ -209,13 +209,34 @@ static void choose_delete_guest(struct call *c)
     c->n[1] = any_guest();
 }
 
-/* Where guest is a number of a guest, its clock is brought close to the wrap at 2^64. */
+const uint64_t TIMEBASES[] = {
+    0, 1, TB_STEP - 1, TB_STEP, TB_STEP + 1, -2 * TB_STEP - 1, -2 * TB_STEP, -TB_STEP - 1, -TB_STEP, 1 - TB_STEP,
+    UINT64_MAX
+};
+
+static size_t tb_offset_at(uint64_t guest)
+{
+    return HEADER + GUEST_SIZE * (guest - 1) + TB_OFFSET;
+}
+
+uint64_t tb_offset(uint64_t guest)
+{
+    return adk_read_be(memory[BEFORE][STORE] + tb_offset_at(guest), 8);
+}
+
+/* Where guest is a number of a guest, its clock is brought close to the wrap at 2^64, by the multiple of TB_STEP that
+   is not above its offset or by the next one. */
 static uint64_t any_timebase(uint64_t guest)
 {
+    if (percent(60))
+        return TIMEBASES[below(TIMEBASE_COUNT)];
     if (guest < 1 || guest > ADK_GUESTS || percent(40))
         return any_number();
-    uint64_t offset = adk_read_be(memory[BEFORE][STORE] + HEADER + GUEST_SIZE * (guest - 1) + TB_OFFSET, 8);
-    return percent(50) ? 1 - offset - below(3) : offset;
+    uint64_t offset = tb_offset(guest);
+    if (percent(30))
+        return offset;
+    uint64_t multiple = offset - offset % TB_STEP + (percent(50) ? TB_STEP : 0);
+    return 1 - multiple - below(3);
 }
 
 static void choose_guest_clock(struct call *c)
@@ -544,8 +565,8 @@ static void stir_values(void)
 
 static void set_tb_offset(void)
 {
-    size_t at = HEADER + GUEST_SIZE * below(ADK_GUESTS) + TB_OFFSET;
-    adk_write_be(memory[BEFORE][STORE] + at, 8, any_number());
+    size_t at = tb_offset_at(1 + below(ADK_GUESTS));
+    adk_write_be(memory[BEFORE][STORE] + at, 8, any_tb_offset());
     share(STORE, at, 8);
 }
 
@@ -598,7 +619,7 @@ const struct kind KINDS[] = {
     { "delete_guest", ON(delete_guest), .number = { "flags", "guest" }, .use = { [STORE] = WRITTEN },
       .weight = { 3, 15, 40 }, .answers = A(0) | A(1) | A(2) | A(3), .supported = ADK_DELETE_ALL },
     { "guest_clock", ON(guest_clock), .number = { "guest", "timebase" }, .use = { [STORE] = READ },
-      .weight = { 15, 15, 15 }, .answers = A(0) | A(1) | A(3) },
+      .weight = { 30, 30, 30 }, .answers = A(0) | A(1) | A(3) },
     { "lookup", ON(lookup), .number = { "id" }, .use = { [BUFFER] = READ }, .weight = { 50, 50, 50 },
       .answers = A(0) | A(5) | A(6) | A(7), .both = A(6) | A(7) },
 };
@@ -606,6 +627,11 @@ const struct kind KINDS[] = {
 bool is_run(const struct kind *k)
 {
     return k->use[EFFECT] != NOT_LENT;
+}
+
+bool is_clock(const struct kind *k)
+{
+    return k->make == make_guest_clock;
 }
 
 bool can_answer(const struct kind *k, int answer, struct manner m)

@@ -13,6 +13,7 @@
 #include "l0.h"
 
 enum { NUMBERS = 4, MOODS = 3, ANSWERS = 16, KIND_COUNT = 13, EXIT_COUNT = 7, NO_EXIT_COUNT = 34 };
+enum { TIMEBASE_COUNT = 11 };
 enum use { NOT_LENT, READ, WRITTEN };
 
 #define A(n) (1u << (n))
@@ -39,10 +40,14 @@ extern const struct kind {
 } KINDS[KIND_COUNT];
 
 bool is_run(const struct kind *k);
+bool is_clock(const struct kind *k);
 
 /* Exit reasons; and numbers close to one, other interrupts, and exit reasons where only the low or the high bits are
    kept. */
 extern const uint64_t EXITS[EXIT_COUNT], NO_EXITS[NO_EXIT_COUNT];
+
+/* Timebases: small ones, and those on both sides of where the clock wraps with one of TB_OFFSETS. */
+extern const uint64_t TIMEBASES[TIMEBASE_COUNT];
 
 /* How a night is made. opaque: what is kept changes by calls only, from the fresh store that the first call asks for,
    as a vendor needs it that keeps its own state. only_nops: every guest state buffer holds NOPs and nothing else. */
@@ -74,6 +79,9 @@ void put_word(uint8_t *header, unsigned slot, unsigned word);
 
 /* The slot of the vCPU that the call names, or ADK_SLOTS. */
 unsigned slot_of(const struct call *c);
+
+/* The TB offset of a guest, from 1 to ADK_GUESTS. */
+uint64_t tb_offset(uint64_t guest);
 
 /* The size in element 0x0C00 or 0x0C01 of a slot. */
 uint64_t registered_size(unsigned slot, unsigned id);

@@ -121,7 +121,7 @@ extern "C" {
  *     0x0002           8     R       least size of a run vCPU output buffer: always 124
  *     0x0003           4     RW      logical PVR. Rule: ADK_PVR_ARCH_300, if ADK_CAP_POWER9 is agreed at the call, or
  *                                    ADK_PVR_ARCH_31, if ADK_CAP_POWER10 is
- *     0x0004           8     RW      TB offset, relative to L1's timebase
+ *     0x0004           8     RW      TB offset, relative to L1's timebase. It is kept as set; the clock rounds it up
  *     0x0005           24    RW      partition-scoped page table: address (8), number of address bits (8), size of the
  *                                    root directory (8)
  *     0x0006           16    RW      process table: address (8), size (8)
@@ -416,7 +416,9 @@ adk_answer adk_delete_guest(uint8_t *store, size_t store_len, uint64_t flags, ui
 
 /*
  * The guest clock: what a live guest's timebase shows while L1's shows timebase. It is the sum of timebase and the
- * guest's TB offset (element 0x0004), and wraps at 2^64.
+ * guest's TB offset (element 0x0004) rounded up to a multiple of 2^24: a hypervisor can set only the upper 40 bits of a
+ * timebase. Rounding and sum wrap at 2^64. With timebase 5, offset 1 gives 16,777,221, and offset 2^64 - 1 gives 5. Get
+ * state gives back the offset as it was set.
  *
  * Answers: ADK_BAD_STORE, ADK_BAD_PARAMETER (the guest is not live), ADK_OK (r4: the guest's time).
  */

@@ -20,7 +20,7 @@ use Rattle.store.specs.Store.{wellFormed, fresh, putCapabilities}
 use Rattle.admission.specs.declared.Admission.{Admission}
 use Rattle.admission.specs.declared.Admission.the-variants.{Admitted, Refused}
 use Rattle.admission.specs.Refusals.{Outcome, success, refusal, accept, refuse, decide, admission}
-use Rattle.l0.specs.Calls.{freshStore, getCapabilities, setCapabilities, offsetOf, guestClock}
+use Rattle.l0.specs.Calls.{freshStore, getCapabilities, setCapabilities, offsetOf, roundedUp, guestClock}
 use Rattle.admission.proofs.FirstTests.{refused, past, admitted}
 use Rattle.guests.proofs.Answers.{left}
 
@@ -97,10 +97,11 @@ module _ (l : Layout) (e : l ≡ small) (s : List ℕ) (guest timebase : ℕ) (t
         let m : not (live l (header l s) guest) ≡ true = ap not (sym o) ∙ k in
         ap (λ (x : Answer). left x s) i ∙ sym (ap (λ (m : Layout). guestClock m s guest timebase) (sym e) ∙ simp (clock-good, m))
 
-    pub clock-told : (p b c : ℕ) → not x ≡ false → p ≡ guestAt l guest → b ≡ be s (p + 4) 8 → c ≡ (timebase + b) % 2 ^ 64 → r ≡ success c → left r s ≡ guestClock small s guest timebase
+    pub clock-told : (p b u c : ℕ) → not x ≡ false → p ≡ guestAt l guest → b ≡ be s (p + 4) 8 → u ≡ roundedUp b → c ≡ (timebase + u) % 2 ^ 64 → r ≡ success c
+        → left r s ≡ guestClock small s guest timebase
     unfolding guestClock decide
-    clock-told p b c k d f g i =
+    clock-told p b u c k d f v g i =
         let m : not (live l (header l s) guest) ≡ false = ap not (sym o) ∙ k in
         let z : b ≡ offsetOf l s guest = f ∙ ap₂ (λ (x y : ℕ). be s (x + y) 8) d (sym tb-offset) in
-        ap (λ (x : Answer). left x s) (i ∙ ap success (g ∙ ap (λ (y : ℕ). (timebase + y) % 2 ^ 64) z))
+        ap (λ (x : Answer). left x s) (i ∙ ap success (g ∙ ap (λ (y : ℕ). (timebase + y) % 2 ^ 64) (v ∙ ap (λ (y : ℕ). roundedUp y) z)))
         ∙ sym (ap (λ (m : Layout). guestClock m s guest timebase) (sym e) ∙ simp (clock-good, m))

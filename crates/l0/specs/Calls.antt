@@ -1,5 +1,5 @@
 -- 01, "Answers" and "The store": each call's refusals in the order of "When several apply", then its effect.
-use Prim.Native.Nat.{ℕ, _+_, _%_, _^_}
+use Prim.Native.Nat.{ℕ, _+_, _-_, _*_, _/_, _%_, _^_}
 use mathlib.Core.Bool.{not}
 use mathlib.Core.List.{List, [], _∷_}
 use lib.Dec.{eqb}
@@ -36,9 +36,13 @@ setCapabilities l s flags bitmap =
 abbrev pub offsetOf : Layout → List ℕ → ℕ → ℕ
 offsetOf l s guest = be s (guestAt l guest + position GuestWide 0x0004) 8
 
+-- L2: "KVM rounds an offset up to a multiple of 16,777,216"; "The guest clock now uses the offset rounded up so, wrapping at 2^64"
+abbrev pub roundedUp : ℕ → ℕ
+roundedUp offset = (offset + (2 ^ 24 - 1)) / 2 ^ 24 * 2 ^ 24 % 2 ^ 64
+
 unfoldable pub guestClock : Layout → List ℕ → ℕ → ℕ → Outcome
 guestClock l s guest timebase =
-    decide s [] (malformed l s ∷ notLive l s guest ∷ []) (accept ((timebase + offsetOf l s guest) % 2 ^ 64) s)
+    decide s [] (malformed l s ∷ notLive l s guest ∷ []) (accept ((timebase + roundedUp (offsetOf l s guest)) % 2 ^ 64) s)
 
 -- A call with its arguments; a history is a list of them.
 pub data Call : Type 0 where

@@ -55,7 +55,7 @@ use Rattle.admission.specs.Target.{baseOf}
 use Rattle.state.specs.State.{contextOf, getUse, getState, setUse, setState}
 use Rattle.run.specs.Run.{inputSize, outputSize, inputOf, runTests, ranStore, ran, runVcpu}
 use Rattle.guests.specs.Guests.{createGuest, createVcpu, deleteGuest}
-use Rattle.l0.specs.Calls.{getCapabilities, offsetOf, guestClock, Call, GetCapabilities, SetCapabilities, CreateGuest, CreateVcpu, GetState, SetState, RunVcpu, DeleteGuest, GuestClock, outcome}
+use Rattle.l0.specs.Calls.{getCapabilities, offsetOf, roundedUp, guestClock, Call, GetCapabilities, SetCapabilities, CreateGuest, CreateVcpu, GetState, SetState, RunVcpu, DeleteGuest, GuestClock, outcome}
 use Rattle.promises.specs.Apart.{Elsewhere}
 use Rattle.promises.proofs.Kept.{decided, applied-header, base-values, well-formed-kept}
 use Rattle.promises.proofs.Runs.{input-walked, effect-walked}
@@ -418,7 +418,7 @@ module _ (l : Layout) (so : Sound l) (s : List ℕ) (good : wellFormed l s ≡ t
     clock-write guest timebase =
         decided-write s q w [] _ _ _ _ (rw (formed-same, header-same))
         (λ p. let b = live-parts l (header l s) guest (not-false _ (p .1 .0)) in
-        ap (λ (x : ℕ). accept ((timebase + x) % 2 ^ 64) (put s q w)) (offset-same guest (b .0) (b .1)))
+        ap (λ (x : ℕ). accept ((timebase + roundedUp x) % 2 ^ 64) (put s q w)) (offset-same guest (b .0) (b .1)))
 
     -- fields of the header, in a store t of the same length
     module _ (t : List ℕ) (same : length t ≡ length s) where

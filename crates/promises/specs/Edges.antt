@@ -78,6 +78,10 @@ placed s id size = zerosBefore (bytesAt (outcome small s (setThread (one id size
 unfoldable pub readAfter : List ℕ → List ℕ → ℕ
 readAfter s b = be (outcome small (outcome small s (setThread b) .store) (getThread (one 0x1003 8 0)) .buffer) 8 8
 
+-- the clock of guest 1 after its TB offset was set
+unfoldable pub clockWith : List ℕ → ℕ → ℕ → ℕ
+clockWith s offset timebase = r4 (outcome small s (SetState bit0 1 0 (one 0x0004 8 offset)) .store) (GuestClock 1 timebase)
+
 -- ---- the table, where s is `ready` and t is `twoSlots`
 unfoldable pub edgesOf : List ℕ → List ℕ → List (ℕ × ℕ)
 edgesOf s t =
@@ -103,8 +107,8 @@ edgesOf s t =
     ∷ (r3 s (setThread goodThenBad), 6) ∷ (r4 s (setThread goodThenBad), 1) ∷ (r3 (registered s) (runThread 0 goodThenBad), 6) ∷ (r4 (registered s) (runThread 0 goodThenBad), 16)
     -- "Slot word, guest 3, vCPU 2047: 0x9FFF; guest 1, vCPU 0: 0x8800."
     ∷ (wordOf small 3 2047, 0x9FFF) ∷ (word small (header small t) 0, 0x9FFF) ∷ (wordOf small 1 0, 0x8800) ∷ (word small (header small t) 1, 0x8800)
-    -- "TB offset 2^64-1, timebase 5: clock 4."
-    ∷ (r4 (outcome small s (SetState bit0 1 0 (one 0x0004 8 (2 ^ 64 - 1))) .store) (GuestClock 1 5), 4)
+    -- L2: "The starred clock case becomes: offset 2^64-1 acts as 0, clock 5. Offset 1, timebase 5 gives 16,777,221."
+    ∷ (clockWith s (2 ^ 64 - 1) 5, 5) ∷ (clockWith s 1 5, 16777221)
     ∷ []
 
 unfoldable pub starred : List (ℕ × ℕ)

@@ -37,6 +37,9 @@ add-get64 c = search needs
 get64-requires : tie.Need-get64-requires
 get64-requires c κs = let so = small-sound _ (c .before .before .before .before .before .small-layout .ensures) in omega (arith, c .guest-at .ensures .2, so .whole, good-long _ _ _ (c .before .before .before .before .well-formed .ensures) (c .before .before .before .if1 .left))
 
+rounded-up-requires : tie.Need-rounded-up-requires
+rounded-up-requires c κs = search needs
+
 wrapping-add-u64-requires : tie.Need-wrapping-add-u64-requires
 wrapping-add-u64-requires c κs = search needs
 
@@ -60,6 +63,7 @@ guest-clock-spec =
     guest-at-requires
     add-get64
     get64-requires
+    rounded-up-requires
     wrapping-add-u64-requires
     success-requires
     returns-3)
