@@ -32,9 +32,9 @@ void tell_made(FILE *to, const struct order *o, const struct made *m, bool all)
     print_what(to, m);
     fprintf(to, "  ");
     print_call(to, c);
-    print_answer(to, "library", &m->ours);
+    print_answer(to, "library", &m->call, &m->ours);
     if (theirs != NULL)
-        print_answer(to, "vendor", theirs);
+        print_answer(to, "vendor", &m->call, theirs);
     if (m->deed.note[0] != '\0')
         fprintf(to, "  vendor %s\n", m->deed.note);
     if (theirs != NULL)

@@ -36,6 +36,7 @@ struct run {
     bool quiet;
     uint64_t tally[KIND_COUNT][ANSWERS];
     unsigned with_r4[KIND_COUNT][2];        /* the answers given with r4 0, and with another r4 */
+    unsigned with_r5[KIND_COUNT];           /* those given with an r5 that is not 0 */
     uint64_t bad_bits[KIND_COUNT];          /* the bits told as r4 of answer 2 */
     uint32_t lengths[KIND_COUNT];           /* which of LENGTHS a buffer or an effect had that was judged */
     uint8_t used[0x10000];                  /* how an ID was used: read, set, or taken by a run */
@@ -69,8 +70,8 @@ static int report(const struct run *r, const char *name, const struct call *c, c
     printf("failed compare %s\n  call %" PRIu64 ": ", name, r->number);
     print_call(stdout, c);
     print_lent(&(struct telling){ stdout, c, lib, mdl, "model", 40 }, HEADER);
-    print_answer(stdout, "library", lib);
-    print_answer(stdout, "model", mdl);
+    print_answer(stdout, "library", c, lib);
+    print_answer(stdout, "model", c, mdl);
     print_differing(stdout, c, lib->r3 != 0, "model", 1);
     printf("  to repeat: compare --seed 0x%" PRIX64 " --calls %" PRIu64 "\n", r->seed, r->number);
     return 1;
@@ -183,6 +184,7 @@ static void note(struct run *r, const struct call *c, const adk_found *f)
     size_t k = (size_t)(c->kind - KINDS), len = judged_length(c, f);
     r->tally[k][f->r3]++;
     r->with_r4[k][f->r4 != 0] |= A(f->r3);
+    r->with_r5[k] |= f->r5 != 0 ? A(f->r3) : 0;
     if (f->r3 == ADK_BAD_FLAG)
         r->bad_bits[k] |= ADK_BIT(f->r4 & 63);
     for (size_t i = 0; i < COUNT(LENGTHS); i++)
@@ -203,7 +205,7 @@ static int compare_call(struct run *r, const struct call *c, const adk_found *ex
     adk_found mdl = c->kind->make(&model, c, memory[OTHER]);
     if (expected != NULL && !same_answer(&lib, expected)) {
         report(r, "order", c, &lib, &mdl);
-        print_answer(stdout, "expected", expected);
+        print_answer(stdout, "expected", c, expected);
         return 1;
     }
     if (!same_answer(&lib, &mdl))
@@ -247,10 +249,10 @@ static const adk_found FAULT_ANSWER[FAULTS] = {
     [OUTPUT_UNREGISTERED] = { .r3 = 11, .r4 = 1 },
     [INPUT_SHORT] = { .r3 = 12, .r4 = 0 },
     [OUTPUT_SHORT] = { .r3 = 12, .r4 = 1 },
-    [INPUT_ELEMENT] = { .r3 = 6, .r4 = 16 },
+    [INPUT_ELEMENT] = { .r3 = 6, .r4 = 16, .r5 = 1 },
     [EXIT] = { .r3 = 13 },
     [EFFECT_LENGTH] = { .r3 = 14, .r4 = 0 },
-    [EFFECT_ELEMENT] = { .r3 = 14, .r4 = 16 },
+    [EFFECT_ELEMENT] = { .r3 = 14, .r4 = 16, .r5 = 1 },
 };
 
 /* Lends a buffer of two elements of 8 bytes, the second at offset 16. */
@@ -346,6 +348,10 @@ static bool covered(const struct run *r, size_t k)
         }
         if (KINDS[k].both & A(a) & ~(r->with_r4[k][0] & r->with_r4[k][1])) {
             printf("  %s never gave %d with r4 %s\n", KINDS[k].name, a, r->with_r4[k][0] & A(a) ? "not 0" : "0");
+            all = false;
+        }
+        if (KINDS[k].answers & A(a) && tells_place(&KINDS[k], (uint64_t)a) && !(r->with_r5[k] & A(a))) {
+            printf("  %s never gave %d with an r5\n", KINDS[k].name, a);
             all = false;
         }
     }

@@ -1,6 +1,6 @@
 /*
- * model.c: the rules of document 01, and of the requests of 02, in plain C. It shares no text with the library, so that
- * a mistake in either shows as a difference. Quoted names are sections of 01.
+ * model.c: the rules of document 01 in plain C, as the requests of 02 amend them. It shares no text with the library, so
+ * that a mistake in either shows as a difference. Quoted names are sections of 01; L2 and L4 are requests of 02.
  */
 #include "model.h"
 
@@ -302,12 +302,24 @@ static bool good_value(unsigned id, const uint8_t *value, uint64_t capabilities)
     }
 }
 
-/* "The guest state buffer": R3 and both forms of place. A run tells the byte offset, the other calls the index. */
+/* "The guest state buffer": R3 and both forms of place, of which L4 says what R4 and R5 tell. */
 struct verdict {
     unsigned r3;
     uint32_t index;
     size_t offset;
 };
+
+/* L4: get and set state keep R4 as the index and put the byte offset in R5. */
+static adk_answer index_and_offset(struct verdict v)
+{
+    return (adk_answer){ v.r3, v.index, v.offset };
+}
+
+/* L4: run keeps the offset in R4 and puts the index in R5, in 14 too. */
+static adk_answer offset_and_index(unsigned r3, struct verdict v)
+{
+    return (adk_answer){ r3, v.offset, v.index };
+}
 
 /*
  * "The guest state buffer", for each element in turn: a header that does not fit is 7; then the ID, 6; then the size,
@@ -363,13 +375,13 @@ static adk_answer target(const uint8_t *s, size_t len, uint64_t bad_flags, bool 
     return answer(0, 0);
 }
 
-/* "Answers", 5, and 14 with R4 0: a buffer under 4 or over 65,536 bytes. */
+/* "Answers", 5, and 14 with R4 and R5 0: a buffer under 4 or over 65,536 bytes. */
 static bool bad_length(size_t len)
 {
     return len < 4 || len > 65536;
 }
 
-/* "Answers", get and set state 1, 2, 3, 4, 5, then the elements, of which the place is the index. */
+/* "Answers", get and set state 1, 2, 3, 4, 5, then the elements; a good buffer's verdict is all zeros. */
 static inline adk_answer judge_state(const uint8_t *s, size_t len, uint64_t flags, uint64_t guest, uint64_t vcpu,
                                      const uint8_t *buffer, size_t buffer_len, unsigned wanted, size_t *values)
 {
@@ -379,7 +391,7 @@ static inline adk_answer judge_state(const uint8_t *s, size_t len, uint64_t flag
     if (bad_length(buffer_len))
         return answer(5, 0);
     struct verdict v = first_bad(buffer, buffer_len, wanted, load64(s + CAPABILITIES));
-    return answer(v.r3, v.index);
+    return index_and_offset(v);
 }
 
 /*
@@ -500,13 +512,13 @@ static adk_answer judge_lent(const uint8_t *values, size_t input_len, size_t out
     return answer(0, 0);
 }
 
-/* "Answers", 14: the byte offset of the first bad element, 0 if the length is bad. */
+/* "Answers", 14, and L4: the place of the first bad element; R4 and R5 are both 0 if the length is bad. */
 static adk_answer judge_effect(const uint8_t *effect, size_t len)
 {
     if (bad_length(len))
         return answer(14, 0);
     struct verdict v = first_bad(effect, len, EFFECT, 0);
-    return v.r3 != 0 ? answer(14, v.offset) : answer(0, 0);
+    return v.r3 != 0 ? offset_and_index(14, v) : answer(0, 0);
 }
 
 /* "Run": a count and elements in the order given, the rest untouched. */
@@ -541,7 +553,7 @@ adk_answer mdl_run_vcpu(uint8_t *store, size_t store_len, uint64_t flags, uint64
         return a;
     struct verdict v = first_bad(input, registered_size(values, RUN_INPUT), INPUT, 0);
     if (v.r3 != 0)
-        return answer(v.r3, v.offset);
+        return offset_and_index(v.r3, v);
     const struct exit_row *row = exit_row(exit_reason);
     if (row == NULL)
         return answer(13, 0);
@@ -603,7 +615,7 @@ adk_answer mdl_guest_clock(const uint8_t *store, size_t store_len, uint64_t gues
 
 /*
  * "The guest state buffer", the lookup: the value part of the last counted element with the ID. It answers 5, 7 only
- * for cut elements (R4 the index), and 6 with R4 = the count. A refusal gives back an empty part.
+ * for cut elements (L4: R4 the index, R5 the offset), and 6 with R4 = the count. A refusal gives back an empty part.
  */
 adk_found mdl_lookup(const uint8_t *buffer, size_t buffer_len, uint16_t id)
 {
@@ -613,12 +625,12 @@ adk_found mdl_lookup(const uint8_t *buffer, size_t buffer_len, uint16_t id)
     size_t at = 4, found_at = 0, found_len = 0;
     for (uint32_t index = 0; index < count; index++) {
         if (buffer_len - at < 4)
-            return (adk_found){ 7, index, 0, 0, 0 };
+            return (adk_found){ 7, index, at, 0, 0 };
         unsigned element = load16(buffer + at);
         size_t size = load16(buffer + at + 2);
         at += 4;
         if (buffer_len - at < size)
-            return (adk_found){ 7, index, 0, 0, 0 };
+            return (adk_found){ 7, index, at - 4, 0, 0 };
         if (element == id) {
             found_at = at;
             found_len = size;

@@ -1,6 +1,6 @@
 /*
- * model.h: the calls of adderknot.h once more, in plain C from document 01 alone. compare.c lays the library beside it,
- * and speed.c times the two. Signatures, answers and the rules about lent memory are those of adderknot.h.
+ * model.h: the calls of adderknot.h once more, in plain C from documents 01 and 02 alone. compare.c lays the library
+ * beside it, and speed.c times the two. Signatures, answers and the rules about lent memory are those of adderknot.h.
  */
 #ifndef MODEL_H
 #define MODEL_H

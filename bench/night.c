@@ -629,6 +629,14 @@ bool is_run(const struct kind *k)
     return k->use[EFFECT] != NOT_LENT;
 }
 
+bool tells_place(const struct kind *k, uint64_t answer)
+{
+    bool state = k->access != 0 || is_run(k);
+    if (answer == ADK_INVALID_ELEMENT_ID)
+        return state;
+    return answer == ADK_INVALID_ELEMENT_SIZE || answer == ADK_INVALID_ELEMENT_VALUE || answer == ADK_BAD_EFFECT;
+}
+
 bool is_clock(const struct kind *k)
 {
     return k->make == make_guest_clock;

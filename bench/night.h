@@ -40,6 +40,9 @@ extern const struct kind {
 } KINDS[KIND_COUNT];
 
 bool is_run(const struct kind *k);
+
+/* L4: whether an answer of the call tells a bad element's index and offset. A lookup's 6 has none: it tells the count. */
+bool tells_place(const struct kind *k, uint64_t answer);
 bool is_clock(const struct kind *k);
 
 /* Exit reasons; and numbers close to one, other interrupts, and exit reasons where only the low or the high bits are

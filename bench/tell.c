@@ -38,12 +38,21 @@ static void print_piece(FILE *to, const struct call *c, enum piece p, size_t mos
         fprintf(to, "    .. and %zu bytes more\n", c->len[p] - n);
 }
 
-void print_answer(FILE *to, const char *who, const adk_found *f)
+/* L4: a run tells the byte offset first, the other calls the index. */
+static void print_bad_place(FILE *to, const struct call *c, const adk_found *f)
+{
+    bool run = is_run(c->kind);
+    fprintf(to, ": index %" PRIu64 ", byte %" PRIu64, run ? f->r5 : f->r4, run ? f->r4 : f->r5);
+}
+
+void print_answer(FILE *to, const char *who, const struct call *c, const adk_found *f)
 {
     fprintf(to, "  %s: r3 %" PRIu64 " (%s), r4 %" PRIu64 " (0x%" PRIX64 "), r5 %" PRIu64, who, f->r3,
             adk_answer_name(f->r3), f->r4, f->r4, f->r5);
     if (f->at != 0 || f->len != 0)
         fprintf(to, ", at %" PRIu64 ", len %" PRIu64, f->at, f->len);
+    if (tells_place(c->kind, f->r3))
+        print_bad_place(to, c, f);
     fprintf(to, "\n");
 }
 

@@ -9,7 +9,7 @@
 /* The name of the call and its numbers. */
 void print_call(FILE *to, const struct call *c);
 
-void print_answer(FILE *to, const char *who, const adk_found *f);
+void print_answer(FILE *to, const char *who, const struct call *c, const adk_found *f);
 
 /* The first bytes, at most so many, at which the sides differ from each other or, where the call may not write, from
    before; guards count as well. other names the other side. */

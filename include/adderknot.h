@@ -101,9 +101,9 @@ extern "C" {
  *     ADK_INVALID_ELEMENT_SIZE     if the size is not the listed one, or the value runs past the end of the buffer
  *     ADK_INVALID_ELEMENT_VALUE    in set state, if the value breaks the rule of its element
  *
- * and r4 is the index of that element, from 0. In the input of a run r4 is instead the byte offset of the element's
- * first byte, counted from the buffer's; in the effect of a run the answer is ADK_BAD_EFFECT for each of these, with
- * that offset.
+ * and the place of that element is told: r4 is its index, from 0, and r5 the byte offset of its first byte, counted from
+ * the buffer's. In the input of a run it is the other way round: r4 is the offset, r5 the index. In the effect of a run
+ * the answer is ADK_BAD_EFFECT for each of these, with the offset in r4 and the index in r5.
  *
  * THE ELEMENTS
  *
@@ -258,18 +258,20 @@ enum {
  *  4  ADK_BAD_VCPU                the vCPU id is above ADK_VCPU_MAX, or (not when creating) the vCPU is absent
  *  5  ADK_BAD_LENGTH              the buffer has under ADK_BUFFER_MIN or over ADK_BUFFER_MAX bytes; never in a run
  *  6  ADK_INVALID_ELEMENT_ID      get and set state, run input: an element's ID is not listed, of the wrong scope, or
- *                                 not permitted in the call. r4: its index, from 0; in a run input its byte offset.
- *                                 Lookup: no counted element has the ID. r4: the count
+ *                                 not permitted in the call. r4: its index, from 0; r5: its byte offset; in a run
+ *                                 input r4 is the offset and r5 the index. Lookup: no counted element has the ID. r4:
+ *                                 the count
  *  7  ADK_INVALID_ELEMENT_SIZE    an element is cut off by the buffer's end; get and set state, run input: or its size
- *                                 is not the listed one. r4: its index, from 0; in a run input its byte offset
- *  8  ADK_INVALID_ELEMENT_VALUE   set state: an element's value breaks its rule. r4: its index, from 0
+ *                                 is not the listed one. r4 and r5 as with 6; lookup: r4 the index, r5 the offset
+ *  8  ADK_INVALID_ELEMENT_VALUE   set state: an element's value breaks its rule. r4 and r5 as with 6
  *  9  ADK_NOT_ENOUGH_RESOURCES    no free guest number, or no free slot
  * 10  ADK_VCPU_EXISTS             the vCPU already exists
  * 11  ADK_NOT_REGISTERED          run: a run buffer is not registered. r4: 0 input, 1 output
  * 12  ADK_LENT_TOO_SHORT          run: a lent run buffer is shorter than registered. r4: 0 input, 1 output
  * 13  ADK_UNKNOWN_EXIT            run: unknown exit reason
  * 14  ADK_BAD_EFFECT              run: the effect has under ADK_BUFFER_MIN or over ADK_BUFFER_MAX bytes, or a bad
- *                                 element. r4: 0 if its length is bad, else the byte offset of its first bad element
+ *                                 element. r4: the byte offset of its first bad element; r5: that one's index; both 0
+ *                                 if its length is bad
  *
  * 15 is a fault of the L1 cache, which C cannot call.
  */
@@ -353,7 +355,7 @@ adk_answer adk_create_vcpu(uint8_t *store, size_t store_len, uint64_t flags, uin
  *
  * Answers: ADK_BAD_STORE, ADK_BAD_FLAG (a bit other than ADK_GUEST_WIDE), ADK_BAD_PARAMETER (the guest is not live),
  * ADK_BAD_VCPU (never with ADK_GUEST_WIDE), ADK_BAD_LENGTH, then of the first bad element ADK_INVALID_ELEMENT_ID or
- * ADK_INVALID_ELEMENT_SIZE (r4: its index, from 0), ADK_OK.
+ * ADK_INVALID_ELEMENT_SIZE (r4: its index, from 0; r5: its byte offset), ADK_OK.
  */
 adk_answer adk_get_state(const uint8_t *store, size_t store_len, uint64_t flags, uint64_t guest, uint64_t vcpu,
                          uint8_t *buffer, size_t buffer_len);
@@ -365,7 +367,7 @@ adk_answer adk_get_state(const uint8_t *store, size_t store_len, uint64_t flags,
  *
  * Answers: ADK_BAD_STORE, ADK_BAD_FLAG (a bit other than ADK_GUEST_WIDE), ADK_BAD_PARAMETER (the guest is not live),
  * ADK_BAD_VCPU (never with ADK_GUEST_WIDE), ADK_BAD_LENGTH, then of the first bad element ADK_INVALID_ELEMENT_ID,
- * ADK_INVALID_ELEMENT_SIZE or ADK_INVALID_ELEMENT_VALUE (r4: its index, from 0), ADK_OK.
+ * ADK_INVALID_ELEMENT_SIZE or ADK_INVALID_ELEMENT_VALUE (r4: its index, from 0; r5: its byte offset), ADK_OK.
  */
 adk_answer adk_set_state(uint8_t *store, size_t store_len, uint64_t flags, uint64_t guest, uint64_t vcpu,
                          const uint8_t *buffer, size_t buffer_len);
@@ -397,8 +399,8 @@ adk_answer adk_set_state(uint8_t *store, size_t store_len, uint64_t flags, uint6
  * Answers: ADK_BAD_STORE, ADK_BAD_FLAG (a bit other than 0 to 2), ADK_BAD_PARAMETER (the guest is not live),
  * ADK_BAD_VCPU, ADK_NOT_REGISTERED (r4 0: the input; then r4 1: the output), ADK_LENT_TOO_SHORT (r4 0: the input; then
  * r4 1: the output), then of the input's first bad element ADK_INVALID_ELEMENT_ID or ADK_INVALID_ELEMENT_SIZE (r4: its
- * byte offset), ADK_UNKNOWN_EXIT, ADK_BAD_EFFECT (r4: 0 if its length is bad, else the byte offset of its first bad
- * element), ADK_OK (r4: exit_reason).
+ * byte offset; r5: its index), ADK_UNKNOWN_EXIT, ADK_BAD_EFFECT (r4: the byte offset of its first bad element; r5: that
+ * one's index; both 0 if its length is bad), ADK_OK (r4: exit_reason).
  */
 adk_answer adk_run_vcpu(uint8_t *store, size_t store_len, uint64_t flags, uint64_t guest, uint64_t vcpu,
                         const uint8_t *input, size_t input_len, uint8_t *output, size_t output_len,
@@ -428,8 +430,8 @@ adk_answer adk_guest_clock(const uint8_t *store, size_t store_len, uint64_t gues
  * Finds an element in a guest state buffer. Of several elements with the ID the last counts. Any ID may be asked for;
  * IDs and sizes are not judged, but every counted element must lie within the buffer, those behind a match too.
  *
- * Answers: ADK_BAD_LENGTH, ADK_INVALID_ELEMENT_SIZE (r4: the index of the first element that is cut off),
- * ADK_INVALID_ELEMENT_ID (r4: the count), ADK_OK (at, len: the value; at is told for an empty value too).
+ * Answers: ADK_BAD_LENGTH, ADK_INVALID_ELEMENT_SIZE (r4: the index of the first element that is cut off; r5: its byte
+ * offset), ADK_INVALID_ELEMENT_ID (r4: the count), ADK_OK (at, len: the value; at is told for an empty value too).
  */
 adk_found adk_lookup(const uint8_t *buffer, size_t buffer_len, uint16_t id);
 

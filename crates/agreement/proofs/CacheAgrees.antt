@@ -1,22 +1,37 @@
 -- THEOREM `cache-agrees`, which is demand 3 whole: for every list of operations, the L1 with a cache and the plain L1 agree; `agrees` is the
--- same of any layout. Assumes nothing.
-use mathlib.Core.Path.{refl, sym, ap, _∙_, subst}
+-- same of any layout. THEOREM `except-only`: what it leaves out of the comparison. Assumes nothing.
+use mathlib.Core.Path.{_≡_, refl, sym, ap, _∙_, subst}
+use mathlib.Core.Bool.{Bool, true, false, cond}
 use mathlib.Core.List.{List, [], _∷_}
 use Prim.Native.Nat.{ℕ, _≤_, _<_}
+use borrow.Author.Tests.{leb-true, eqb-true}
+use Rattle.answer.specs.declared.Registers.{Registers}
+use Rattle.answer.specs.Answer.{three}
 use Rattle.rules.specs.Rules.{goodInput, goodOutput}
 use Rattle.store.specs.declared.Layout.{Layout}
 use Rattle.store.specs.Layout.{Sound, small}
 use Rattle.store.specs.Header.{header, slotOf}
+use Rattle.store.proofs.Search.{both}
 use Rattle.store.proofs.Small.{sound-small}
 use Rattle.run.specs.Run.{inputSize, outputSize}
 use Rattle.l1.specs.Marks.{Cache}
-use Rattle.agreement.specs.Agree.{Op, Write, Read, Run, Other, Cached, cachedTurn, plainTurn, since, Agree, Allowed, Start}
+use Rattle.agreement.specs.Agree.{Op, Write, Read, Run, Other, isExcepted, asCached, Cached, cachedTurn, plainTurn, since, Agree, Allowed, Start}
 use Rattle.agreement.proofs.Ours.{Ours, ours-base}
 use Rattle.agreement.proofs.Invariant.{Inv, Goes, write-turn}
 use Rattle.agreement.proofs.ReadTurn.{read-turn}
 use Rattle.agreement.proofs.RunTurn.{run-turn}
 use Rattle.agreement.proofs.OtherTurn.{other-turn}
 use Rattle.agreement.proofs.Refresh.{empty-inv}
+
+-- 02, L4: "demand 3 compares R4 and R5 except that ..": R3 and R4 are always the same, and so is R5 but where it is 4 in 6, 7 or 8
+pub except-only : (r : Registers) → (asCached r .r3 ≡ r .r3) × (asCached r .r4 ≡ r .r4) × (((6 ≤ r .r3) × (r .r3 ≤ 8) × (r .r5 ≡ 4) → ⊥) → asCached r .r5 ≡ r .r5)
+except-only r = go (isExcepted r) (λ e. let h = both _ _ e in let k = both _ _ (h .0) in (leb-true _ _ (k .0), leb-true _ _ (k .1), eqb-true _ _ (h .1)))
+  where
+    go : (t : Bool) → (t ≡ true → (6 ≤ r .r3) × (r .r3 ≤ 8) × (r .r5 ≡ 4))
+        → (cond t (three (r .r3) (r .r4) 0) r .r3 ≡ r .r3) × (cond t (three (r .r3) (r .r4) 0) r .r4 ≡ r .r4)
+        × (((6 ≤ r .r3) × (r .r3 ≤ 8) × (r .r5 ≡ 4) → ⊥) → cond t (three (r .r3) (r .r4) 0) r .r5 ≡ r .r5)
+    go true h = (refl, refl, λ n. absurd (n (h refl)))
+    go false h = (refl, refl, λ n. refl)
 
 module _ (l : Layout) (so : Sound l) (g v j : ℕ) (below : j < l .slots) where
   -- one operation, whatever it is

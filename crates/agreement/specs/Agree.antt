@@ -2,7 +2,7 @@
 -- between them, every answer is the same for both". The theorem is `cache-agrees`.
 use Prim.Native.Nat.{ℕ, zero, suc, _+_, _^_, _≤_, _<_}
 use mathlib.Core.Path.{_≡_}
-use mathlib.Core.Bool.{true, false, cond}
+use mathlib.Core.Bool.{Bool, true, false, _&&_, cond}
 use mathlib.Core.List.{List, [], _∷_, _++_}
 use lib.Dec.{eqb}
 use lib.ListN.{length}
@@ -10,9 +10,9 @@ use Rattle.octets.specs.Bytes.{bytesAt, put, zeros}
 use Rattle.answer.specs.declared.Answer.{Answer}
 use Rattle.answer.specs.declared.Call.{Call as Name}
 use Rattle.answer.specs.declared.Registers.{Registers}
-use Rattle.answer.specs.Answer.{told, accepted}
+use Rattle.answer.specs.Answer.{three, told, accepted}
 use Rattle.elements.specs.Table.{threadElement}
-use Rattle.rules.specs.Rules.{goodInput, goodOutput}
+use Rattle.rules.specs.Rules.{between, goodInput, goodOutput}
 use Rattle.gsb.specs.Walk.{countOf, idAt, sizeAt, offsetAt}
 use Rattle.gsb.specs.Message.{message}
 use Rattle.store.specs.declared.Layout.{Layout}
@@ -44,6 +44,22 @@ pub record Seen : Type 0 where
 
 abbrev pub seen : Name → Answer → List ℕ → Seen
 seen c a b = record { answer = told c (a .fault) (a .value); buffer = b }
+
+-- 02, L4: "demand 3 compares R4 and R5 except that a cache write or read has R5 0 where set or get state has 4": where it tells 6, 7 or 8
+-- with R5 4
+abbrev pub isExcepted : Registers → Bool
+isExcepted r = between 6 8 (r .r3) && eqb (r .r5) 4
+
+-- what a cache write or read tells where set or get state tells r: nothing else differs
+abbrev pub asCached : Registers → Registers
+asCached r = cond (isExcepted r) (three (r .r3) (r .r4) 0) r
+
+-- what is seen of an operation with the cache, where s is seen of it without
+abbrev pub withCache : Op → Seen → Seen
+withCache (Write id v) s = record { answer = asCached (s .answer); buffer = s .buffer }
+withCache (Read id v) s = record { answer = asCached (s .answer); buffer = s .buffer }
+withCache (Run flags input output effect exit) s = s
+withCache (Other c) s = s
 
 -- an operation of an L1 whose state is an S: what is seen, the state after it, and a run's input after it
 pub record Turn (S : Type 0) : Type 0 where
@@ -132,7 +148,7 @@ AfterRun (Other c) r claim = Unit {0}
 pub record Same (registered : ℕ) (o : Op) (ws : List (ℕ × List ℕ)) (c : Turn Cached) (p : Turn (List ℕ)) : Type 0 where
   -- Demand 3: "every answer is the same for both, and so is every value buffer after a read, every output after a run and every buffer of
   -- those other calls"
-  pub shown : c .shown ≡ p .shown
+  pub shown : c .shown ≡ withCache o (p .shown)
   -- Demand 3: "After each accepted run of that vCPU the two stores are equal."
   pub stores : AfterRun o (p .shown .answer) (λ lent. c .next .store ≡ p .next)
   -- Demand 3: "The cache's input for that run then holds a count and exactly the elements that accepted writes named"

@@ -11,6 +11,7 @@ use Rattle.answer.specs.declared.Fault.{Fault}
 use Rattle.answer.specs.declared.Fault.the-variants.{None, Store, Flag, Guest, Token, Capability, Vcpu, Length, Element, Room, Exists, Unregistered, Short, Exit, Effect, Cache}
 use Rattle.answer.specs.declared.Call.{Call}
 use Rattle.answer.specs.declared.Call.the-variants.{FreshStore, GetCapabilities, SetCapabilities, CreateGuest, CreateVcpu, GetState, SetState, RunVcpu, DeleteGuest, GuestClock, Lookup, CacheWrite, CacheRead, CacheRun}
+use Rattle.answer.specs.declared.Shown.{Shown}
 use Rattle.answer.specs.declared.Registers.{Registers}
 
 -- the row "6 / 7 / 8", "invalid element ID / size / value"
@@ -24,26 +25,40 @@ abbrev pub bufferNumber : RunBuffer → ℕ
 bufferNumber Input = 0
 bufferNumber Output = 1
 
--- 01, "The guest state buffer": "Place is the array index from 0 in get state, set state and lookup, but the byte offset of the
--- element's first byte in a run input." A cache's read and write have the place 0, its run is a run.
-abbrev pub placeShown : Call → Place → ℕ
-placeShown FreshStore p = p .index
-placeShown GetCapabilities p = p .index
-placeShown SetCapabilities p = p .index
-placeShown CreateGuest p = p .index
-placeShown CreateVcpu p = p .index
-placeShown GetState p = p .index
-placeShown SetState p = p .index
-placeShown RunVcpu p = p .offset
-placeShown DeleteGuest p = p .index
-placeShown GuestClock p = p .index
-placeShown Lookup p = p .index
-placeShown CacheWrite p = p .index
-placeShown CacheRead p = p .index
-placeShown CacheRun p = p .offset
+-- 02, L4: "Set and get state, and a lookup's 7, keep R4 as the index and put the byte offset in R5;"
+abbrev pub indexFirst : Place → Shown
+indexFirst p = record { r4 = p .index; r5 = p .offset }
+
+-- "run keeps the offset in R4 and puts the index in R5, in 14 too (both 0 if the effect's length is bad)."
+abbrev pub offsetFirst : Place → Shown
+offsetFirst p = record { r4 = p .offset; r5 = p .index }
+
+-- "A cache write or read, whose faults have no buffer, has 0 in both."
+abbrev pub noPlace : Shown
+noPlace = record { r4 = 0; r5 = 0 }
+
+-- which of them is which call's: a cache's run is a run, and the calls without a buffer have no place either
+abbrev pub placeShown : Call → Place → Shown
+placeShown FreshStore p = noPlace
+placeShown GetCapabilities p = noPlace
+placeShown SetCapabilities p = noPlace
+placeShown CreateGuest p = noPlace
+placeShown CreateVcpu p = noPlace
+placeShown GetState p = indexFirst p
+placeShown SetState p = indexFirst p
+placeShown RunVcpu p = offsetFirst p
+placeShown DeleteGuest p = noPlace
+placeShown GuestClock p = noPlace
+placeShown Lookup p = indexFirst p
+placeShown CacheWrite p = noPlace
+placeShown CacheRead p = noPlace
+placeShown CacheRun p = offsetFirst p
 
 abbrev pub three : ℕ → ℕ → ℕ → Registers
 three a b c = record { r3 = a; r4 = b; r5 = c }
+
+abbrev pub withPlace : ℕ → Shown → Registers
+withPlace n p = three n (p .r4) (p .r5)
 
 -- The table, row for row; v is what a success tells. "R4 and R5 are 0 where nothing is said."
 abbrev pub told : Call → Fault → ℕ → Registers
@@ -55,13 +70,13 @@ told c Token v = three 3 0 0
 told c Capability v = three 3 1 0
 told c Vcpu v = three 4 0 0
 told c Length v = three 5 0 0
-told c (Element bad place) v = three (badNumber bad) (placeShown c place) 0
+told c (Element bad place) v = withPlace (badNumber bad) (placeShown c place)
 told c Room v = three 9 0 0
 told c Exists v = three 10 0 0
 told c (Unregistered buffer) v = three 11 (bufferNumber buffer) 0
 told c (Short buffer) v = three 12 (bufferNumber buffer) 0
 told c Exit v = three 13 0 0
-told c (Effect place) v = three 14 (place .offset) 0
+told c (Effect place) v = withPlace 14 (placeShown c place)
 told c Cache v = three 15 0 0
 
 -- 01, "The L1 cache": "Accepted: R3 is 0."

@@ -1,6 +1,6 @@
 // What a call answers: a fault, and with success a value; and 01's numbers R3, R4 and R5 for it.
 ghost use mathlib.Core.Path.{_≡_};
-ghost use Rattle.answer.specs.Answer.{badNumber, bufferNumber, placeShown, told};
+ghost use Rattle.answer.specs.Answer.{badNumber, bufferNumber, placeShown, withPlace, told};
 
 // What is wrong with an element.
 pub enum Bad {
@@ -65,6 +65,12 @@ pub enum Call {
     CacheRun,
 }
 
+// What R4 and R5 show of a place.
+pub struct Shown {
+    pub r4: u64,
+    pub r5: u64,
+}
+
 #[repr(C)]
 pub struct Registers {
     pub r3: u64,
@@ -107,27 +113,36 @@ fn buffer_number(b: RunBuffer) -> u64
     }
 }
 
-// Which of the two places R4 shows.
-fn place_shown(c: Call, p: Place) -> u64
+// Which numbers of a place the call shows.
+fn place_shown(c: Call, p: Place) -> Shown
     ensures { λ r. ⌜ r ≡ placeShown c p ⌝ }
 {
     let index = p.index as u64;
     let offset = p.offset as u64;
+    let index_first = Shown {
+        r4: index,
+        r5: offset,
+    };
+    let offset_first = Shown {
+        r4: offset,
+        r5: index,
+    };
+    let no_place = Shown { r4: 0, r5: 0 };
     match c {
-        Call::FreshStore => index,
-        Call::GetCapabilities => index,
-        Call::SetCapabilities => index,
-        Call::CreateGuest => index,
-        Call::CreateVcpu => index,
-        Call::GetState => index,
-        Call::SetState => index,
-        Call::RunVcpu => offset,
-        Call::DeleteGuest => index,
-        Call::GuestClock => index,
-        Call::Lookup => index,
-        Call::CacheWrite => index,
-        Call::CacheRead => index,
-        Call::CacheRun => offset,
+        Call::FreshStore => no_place,
+        Call::GetCapabilities => no_place,
+        Call::SetCapabilities => no_place,
+        Call::CreateGuest => no_place,
+        Call::CreateVcpu => no_place,
+        Call::GetState => index_first,
+        Call::SetState => index_first,
+        Call::RunVcpu => offset_first,
+        Call::DeleteGuest => no_place,
+        Call::GuestClock => no_place,
+        Call::Lookup => index_first,
+        Call::CacheWrite => no_place,
+        Call::CacheRead => no_place,
+        Call::CacheRun => offset_first,
     }
 }
 
@@ -135,6 +150,12 @@ fn three(r3: u64, r4: u64, r5: u64) -> Registers
     ensures { λ r. ⌜ r ≡ record { r3 = r3; r4 = r4; r5 = r5 } ⌝ }
 {
     Registers { r3, r4, r5 }
+}
+
+fn with_place(r3: u64, place: Shown) -> Registers
+    ensures { λ r. ⌜ r ≡ withPlace r3 place ⌝ }
+{
+    three(r3, place.r4, place.r5)
 }
 
 // 01's three numbers for an answer.
@@ -151,13 +172,13 @@ pub fn registers_of(c: Call, a: Answer) -> Registers
         Fault::Capability => three(3, 1, 0),
         Fault::Vcpu => three(4, 0, 0),
         Fault::Length => three(5, 0, 0),
-        Fault::Element(bad, place) => three(bad_number(bad), place_shown(c, place), 0),
+        Fault::Element(bad, place) => with_place(bad_number(bad), place_shown(c, place)),
         Fault::Room => three(9, 0, 0),
         Fault::Exists => three(10, 0, 0),
         Fault::Unregistered(buffer) => three(11, buffer_number(buffer), 0),
         Fault::Short(buffer) => three(12, buffer_number(buffer), 0),
         Fault::Exit => three(13, 0, 0),
-        Fault::Effect(place) => three(14, place.offset as u64, 0),
+        Fault::Effect(place) => with_place(14, place_shown(c, place)),
         Fault::Cache => three(15, 0, 0),
     }
 }

@@ -1,6 +1,5 @@
 // The plain L1, of vCPU 0 of guest 1: a write or a read is a set or a get state with a buffer of one element, a run has an input of
 // zeros. Each operation adds what it saw to the digest.
-use super::digest::mix_answer;
 use super::digest::mix_bytes;
 use super::digest::mix_registers;
 use super::digest::mix_run;
@@ -37,12 +36,29 @@ fn six() -> Registers {
     }
 }
 
-fn set(store: &mut [u8], guest: u64, x: u64, digest: u64) -> u64 {
+// What a cache write or read tells: R5 0 where set or get state has 4.
+fn as_cached(told: Registers) -> Registers {
+    if told.r3 < 6 {
+        return told;
+    }
+    if told.r3 > 8 {
+        return told;
+    }
+    if told.r5 != 4 {
+        return told;
+    }
+    Registers {
+        r3: told.r3,
+        r4: told.r4,
+        r5: 0,
+    }
+}
+
+fn set(store: &mut [u8], guest: u64, x: u64) -> Registers {
     let e = an_element(x);
     let b = e.bytes;
     let end = e.end;
-    mix_answer(
-        digest,
+    registers_of(
         Call::SetState,
         state::set_state(store, 0, guest, 0, &b[0..end]),
     )
@@ -52,14 +68,14 @@ fn write(store: &mut [u8], x: u64, digest: u64) -> u64 {
     if is_special(an_id(x)) {
         return mix_registers(digest, six());
     }
-    set(store, 1, x, digest)
+    mix_registers(digest, as_cached(set(store, 1, x)))
 }
 
 fn get(store: &[u8], id: u16, buffer: &mut [u8]) -> Registers {
     if is_special(id) {
         return six();
     }
-    registers_of(Call::GetState, state::get_state(store, 0, 1, 0, buffer))
+    as_cached(registers_of(Call::GetState, state::get_state(store, 0, 1, 0, buffer)))
 }
 
 fn read(store: &[u8], x: u64, digest: u64) -> u64 {
@@ -88,7 +104,7 @@ fn run(store: &mut [u8], x: u64, digest: u64) -> u64 {
 
 // A call on guest 2, which both L1s make.
 pub fn other(store: &mut [u8], x: u64, digest: u64) -> u64 {
-    set(store, 2, next(x), digest)
+    mix_registers(digest, set(store, 2, next(x)))
 }
 
 fn turn(store: &mut [u8], x: u64, digest: u64) -> u64 {

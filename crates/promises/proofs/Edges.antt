@@ -23,7 +23,7 @@ use Rattle.run.specs.Run.{ran, runVcpu}
 use Rattle.guests.specs.Guests.{createGuest, createVcpu}
 use Rattle.l0.specs.Calls.{guestClock, CreateVcpu, outcome, after}
 use Rattle.promises.specs.History.{registers}
-use Rattle.promises.specs.Edges.{agrees, element, bufferOf, one, ready, twoSlots, r3, r4, registered, goodThenBad, zerosBefore, placed, readAfter, clockWith, edgesOf, starred}
+use Rattle.promises.specs.Edges.{agrees, element, bufferOf, one, ready, twoSlots, r3, r4, r5, registered, goodThenBad, zerosBefore, placed, readAfter, clockWith, edgesOf, starred}
 
 -- ---- the two stores as bytes, which every case begins with
 -- a fresh store but for the bytes from byte 8 on: the live guests, the zero byte, the slot words
@@ -45,7 +45,7 @@ stores = (
 
 -- ---- the cases
 computed : agrees (edgesOf (plain (0x80 ∷ 0 ∷ 0x88 ∷ 0x00 ∷ [])) (plain (0xE0 ∷ 0 ∷ 0x9F ∷ 0xFF ∷ 0x88 ∷ 0x00 ∷ []))) ≡ true
-unfolding bytesAt put be digits zeros bit bits table below position sourceOf find kindOf allows permits sizeFits ruleOf goodValue offsetAt judged next walk firstBad putFrom putAs applied readFrom fillAs filled every first header capabilitiesOf live word wordOf isUsed guestOf holds lacks alone slotGood headGood wordsGood slotHolding slotOf wellFormed fresh exits isAmong decide baseOf getState setState ran runVcpu guestClock outcome registers element bufferOf one registered goodThenBad r3 r4 zerosBefore placed readAfter clockWith edgesOf leadingZeros
+unfolding bytesAt put be digits zeros bit bits table below position sourceOf find kindOf allows permits sizeFits ruleOf goodValue offsetAt judged next walk firstBad putFrom putAs applied readFrom fillAs filled every first header capabilitiesOf live word wordOf isUsed guestOf holds lacks alone slotGood headGood wordsGood slotHolding slotOf wellFormed fresh exits isAmong decide baseOf getState setState ran runVcpu guestClock outcome registers element bufferOf one registered goodThenBad r3 r4 r5 zerosBefore placed readAfter clockWith edgesOf leadingZeros
 computed = refl
 
 pub edges : agrees starred ≡ true

@@ -22,7 +22,7 @@ use Rattle.gsb.specs.Lookup.{framed, lastWith, partOf, unlessCut, lookedUp, Cou
 use Rattle.gsb.proofs.First.{refused-exactly, accepted-exactly}
 use Rattle.gsb.proofs.LookupLaws.{framed-bad, framed-leads, looked-walk, last-nowhere, last-found, Sought, missing, present, sought}
 use Rattle.promises.specs.Promised.{lookupTold}
-use Rattle.promises.proofs.Told.{number-some, toldBy, elementTold, index-told, good-told}
+use Rattle.promises.proofs.Told.{number-some, toldBy, elementTold, indexFirstIn, element-told, good-told}
 
 -- past 5
 module _ (b : List ℕ) (id : ℕ) (g : badLength b ≡ false) where
@@ -53,10 +53,10 @@ module _ (b : List ℕ) (id : ℕ) (g : badLength b ≡ false) where
   part-present i l e h = ap (λ (x : Last). shown (partOf b x)) (last-found b id (countOf b) i l e h)
 
   -- ---- Demand 2: "a buffer is refused for an element exactly if it holds a bad one, and the place told is the first." 01: "It answers 5
-  -- or 7 as above, only for cut elements"
-  pub lookup-refused-exactly : (i : ℕ) → (lookupTold b id ≡ three 7 i 0) ↔ FirstBadAt (framed b) b i Size
-  lookup-refused-exactly i =
-      index-told (framed b) b (framed-leads b) cut refl Name.Lookup (shown part) Size i (other (sought b id (countOf b))) (lookupTold b id) walk-told (λ place. refl)
+  -- or 7 as above, only for cut elements". 02, L4: "Set and get state, and a lookup's 7, keep R4 as the index and put the byte offset in R5".
+  pub lookup-refused-exactly : (i at : ℕ) → (lookupTold b id ≡ three 7 i at) ↔ (FirstBadAt (framed b) b i Size × (offsetAt b i ≡ at))
+  lookup-refused-exactly i at =
+      element-told (framed b) b (framed-leads b) cut refl Name.Lookup (shown part) Size (other (sought b id (countOf b))) indexFirstIn (λ bad place. refl) (record { index = i; offset = at }) (lookupTold b id) walk-told
     where
       other : Sought b id (countOf b) → shown part .r3 ≢ 7
       other (missing h) e = let z : _≡_ {A = ℕ} 6 7 = sym (ap (λ (r : Registers). r .r3) (part-missing h)) ∙ e in omega arith

@@ -42,7 +42,7 @@ use Rattle.promises.specs.History.{registers}
 use Rattle.promises.specs.Promised.{beforeInput, inputGiven, InputGood, EffectGood}
 use Rattle.promises.proofs.Kept.{decided}
 use Rattle.promises.proofs.States.{skip}
-use Rattle.promises.proofs.Told.{number-some, number-below, tells, toldBy, elementTold, first-told, good-told, element-told}
+use Rattle.promises.proofs.Told.{number-some, number-below, tells, toldBy, elementTold, offsetFirstIn, first-told, good-told, element-told}
 
 -- the first element lies behind the count
 offset-from : (b : List ℕ) (i : ℕ) → 4 ≤ offsetAt b i
@@ -71,8 +71,7 @@ module _ (l : Layout) (s : List ℕ) (flags guest vcpu : ℕ) (input output effe
   call = RunVcpu flags guest vcpu input output effect exit
 
   -- ---- Demand 2: "Past the earlier checks, a buffer is refused for an element exactly if it holds a bad one, and the place told is the
-  -- first." 01: "the byte offset of the element's first byte in a run input"; 14 has the "byte offset of its first bad element, 0 if its
-  -- length is bad".
+  -- first." 02, L4: "run keeps the offset in R4 and puts the index in R5, in 14 too (both 0 if the effect's length is bad)".
   abbrev judgeInput : ℕ → Verdict
   judgeInput = judged (contextOf l s RunInput) given
 
@@ -81,7 +80,7 @@ module _ (l : Layout) (s : List ℕ) (flags guest vcpu : ℕ) (input output effe
 
   -- what is told of an effect, v being what its walk finds, and from 13 on
   abbrev effectShown : Bad → Place → Registers
-  effectShown bad place = three 14 (place .offset) 0
+  effectShown bad place = three 14 (place .offset) (place .index)
 
   abbrev effectTold : Walked → Registers
   effectTold v = toldBy effectShown (three 0 exit 0) v
@@ -115,12 +114,11 @@ module _ (l : Layout) (s : List ℕ) (flags guest vcpu : ℕ) (input output effe
         go Done true false (Stopped bad place) = refl
         go Done true false Done = refl
 
-    pub run-refused-exactly : (bad : Bad) (at : ℕ) → (registers l s (RunVcpu flags guest vcpu input output effect exit) ≡ three (badNumber bad) at 0)
-        ↔ ((i : ℕ) × FirstBadAt (judged (contextOf l s RunInput) (inputGiven l s guest vcpu input)) (inputGiven l s guest vcpu input) i bad × (offsetAt (inputGiven l s guest vcpu input) i ≡ at))
-    run-refused-exactly bad at =
-        subst (λ (r : Registers). (r ≡ three (badNumber bad) at 0) ↔ ((i : ℕ) × FirstBadAt judgeInput given i bad × (offsetAt given i ≡ at))) (sym run-told)
-        (element-told judgeInput given (judged-leads (contextOf l s RunInput) given) (firstBad (contextOf l s RunInput) given) (first-walk (contextOf l s RunInput) given) Name.RunVcpu laterTold bad at
-        (other bad (known exit) (badLength effect) found))
+    pub run-refused-exactly : (bad : Bad) (at i : ℕ) → (registers l s (RunVcpu flags guest vcpu input output effect exit) ≡ three (badNumber bad) at i)
+        ↔ (FirstBadAt (judged (contextOf l s RunInput) (inputGiven l s guest vcpu input)) (inputGiven l s guest vcpu input) i bad × (offsetAt (inputGiven l s guest vcpu input) i ≡ at))
+    run-refused-exactly bad at i =
+        element-told judgeInput given (judged-leads (contextOf l s RunInput) given) (firstBad (contextOf l s RunInput) given) (first-walk (contextOf l s RunInput) given) Name.RunVcpu laterTold bad
+        (other bad (known exit) (badLength effect) found) offsetFirstIn (λ bad′ place. refl) (record { index = i; offset = at }) _ run-told
       where
         -- 0, 13 and 14 are not 6, 7 or 8
         other : (b : Bad) (k long : Bool) (v : Walked) → later k long v .r3 ≢ badNumber b
@@ -162,21 +160,24 @@ module _ (l : Layout) (s : List ℕ) (flags guest vcpu : ℕ) (input output effe
 
       -- an effect of a good length
       module _ (g : badLength effect ≡ false) where
-        pub effect-refused-exactly : (at : ℕ) → (registers l s (RunVcpu flags guest vcpu input output effect exit) ≡ three 14 at 0)
-            ↔ ((i : ℕ) × (bad : Bad) × FirstBadAt (judged (contextOf l s InEffect) effect) effect i bad × (offsetAt effect i ≡ at))
-        effect-refused-exactly at = (there, back)
+        pub effect-refused-exactly : (at i : ℕ) → (registers l s (RunVcpu flags guest vcpu input output effect exit) ≡ three 14 at i)
+            ↔ ((bad : Bad) × FirstBadAt (judged (contextOf l s InEffect) effect) effect i bad × (offsetAt effect i ≡ at))
+        effect-refused-exactly at i = (there, back)
           where
             walk-told : registers l s call ≡ effectTold found
             walk-told = effect-told ∙ ap (λ (t : Bool). cond t (three 14 0 0) (effectTold found)) g
 
-            first : (effectTold found ≡ three 14 at 0) ↔ ((i : ℕ) × (bad : Bad) × FirstBadAt judgeEffect effect i bad × (three 14 (offsetAt effect i) 0 ≡ three 14 at 0))
-            first = first-told judgeEffect effect (judged-leads (contextOf l s InEffect) effect) found (first-walk (contextOf l s InEffect) effect) effectShown (three 0 exit 0) (three 14 at 0) (λ e. let z : _≡_ {A = ℕ} 0 14 = ap (λ (r : Registers). r .r3) e in omega arith)
+            first : (effectTold found ≡ three 14 at i) ↔ ((j : ℕ) × (bad : Bad) × FirstBadAt judgeEffect effect j bad × (three 14 (offsetAt effect j) j ≡ three 14 at i))
+            first = first-told judgeEffect effect (judged-leads (contextOf l s InEffect) effect) found (first-walk (contextOf l s InEffect) effect) effectShown (three 0 exit 0) (three 14 at i) (λ e. let z : _≡_ {A = ℕ} 0 14 = ap (λ (r : Registers). r .r3) e in omega arith)
 
-            there : registers l s call ≡ three 14 at 0 → (i : ℕ) × (bad : Bad) × FirstBadAt judgeEffect effect i bad × (offsetAt effect i ≡ at)
-            there e = let f = first .0 (sym walk-told ∙ e) in (f .0, f .1, f .2, ap (λ (r : Registers). r .r4) (f .3))
+            there : registers l s call ≡ three 14 at i → (bad : Bad) × FirstBadAt judgeEffect effect i bad × (offsetAt effect i ≡ at)
+            there e =
+                let f = first .0 (sym walk-told ∙ e) in
+                let q : f .0 ≡ i = ap (λ (r : Registers). r .r5) (f .3) in
+                (f .1, subst (λ (j : ℕ). FirstBadAt judgeEffect effect j (f .1)) q (f .2), sym (ap (offsetAt effect) q) ∙ ap (λ (r : Registers). r .r4) (f .3))
 
-            back : ((i : ℕ) × (bad : Bad) × FirstBadAt judgeEffect effect i bad × (offsetAt effect i ≡ at)) → registers l s call ≡ three 14 at 0
-            back f = walk-told ∙ first .1 (f .0, f .1, f .2, ap (λ (y : ℕ). three 14 y 0) (f .3))
+            back : ((bad : Bad) × FirstBadAt judgeEffect effect i bad × (offsetAt effect i ≡ at)) → registers l s call ≡ three 14 at i
+            back f = walk-told ∙ first .1 (i, f .0, f .1, ap (λ (y : ℕ). three 14 y i) (f .2))
 
       -- no element lies at offset 0, so that 14 with 0 is told of a bad length alone
       pub effect-length-exactly : (registers l s (RunVcpu flags guest vcpu input output effect exit) ≡ three 14 0 0) ↔ (badLength effect ≡ true)
@@ -184,7 +185,7 @@ module _ (l : Layout) (s : List ℕ) (flags guest vcpu : ℕ) (input output effe
         where
           go : (t : Bool) → badLength effect ≡ t → registers l s call ≡ three 14 0 0 → badLength effect ≡ true
           go true g e = g
-          go false g e = let f = effect-refused-exactly g 0 .0 e in absurd (omega (arith, f .3, offset-from effect (f .0)))
+          go false g e = let f = effect-refused-exactly g 0 0 .0 e in absurd (omega (arith, f .2, offset-from effect 0))
 
   -- ---- only what is named changes
   abbrev tests : List (Bool × Fault)

@@ -24,7 +24,7 @@ use Rattle.elements.specs.Right.{bytesOf}
 use Rattle.rules.specs.Rules.{scopeFor}
 use Rattle.gsb.specs.declared.Walked.{Walked}
 use Rattle.gsb.specs.declared.Walked.the-variants.{Done, Stopped}
-use Rattle.gsb.specs.Walk.{countOf, badLength, judged, firstBad}
+use Rattle.gsb.specs.Walk.{countOf, offsetAt, badLength, judged, firstBad}
 use Rattle.gsb.specs.First.{FirstBadAt, AllGood}
 use Rattle.gsb.proofs.First.{judged-leads, first-walk}
 use Rattle.gsb.proofs.Walks.{long-enough}
@@ -43,7 +43,7 @@ use Rattle.state.specs.State.{contextOf, isStopped, faultOf, badElement, buffer
 use Rattle.l0.specs.Calls.{GetState, SetState, outcome}
 use Rattle.promises.specs.History.{registers}
 use Rattle.promises.proofs.Kept.{decided}
-use Rattle.promises.proofs.Told.{number-some, tells, toldBy, elementTold, index-told, zero-told}
+use Rattle.promises.proofs.Told.{number-some, tells, toldBy, elementTold, indexFirstIn, element-told, zero-told}
 
 -- tests that failed may be left out
 pub skip : {B : Type 0} (turn : Fault → B) (xs ys : List (Bool × Fault)) (o : B) → Passed xs → firstOf turn (xs ++ ys) o ≡ firstOf turn ys o
@@ -56,7 +56,7 @@ not-stopped (Stopped bad place) e = let z : _≡_ {A = ℕ} 0 1 = cc in absurd (
 
 module _ (l : Layout) (s : List ℕ) (flags guest vcpu : ℕ) (b : List ℕ) where
   -- ---- Demand 2: "Past the earlier checks, a buffer is refused for an element exactly if it holds a bad one, and the place told is the
-  -- first." 01: "Place is the array index from 0 in get state, set state".
+  -- first." 02, L4: "Set and get state, and a lookup's 7, keep R4 as the index and put the byte offset in R5".
   module _ (p : Passed (targetTests l s bit0 flags (hasBit0 flags) guest vcpu)) (g : badLength b ≡ false) where
     -- past the earlier tests, what is told is what the walk finds
     walk-told : (c : Name) (usage : Usage) (lent : List ℕ) (o : Outcome) → o .answer ≡ success 0 → (x : Outcome) → x ≡ decide s lent (targetTests l s bit0 flags (hasBit0 flags) guest vcpu ++ bufferTests l s usage b) o
@@ -78,15 +78,17 @@ module _ (l : Layout) (s : List ℕ) (flags guest vcpu : ℕ) (b : List ℕ) whe
     unfolding registers outcome getState
     get-told = walk-told Name.GetState (getUse (hasBit0 flags)) b _ refl _ refl
 
-    pub set-refused-exactly : (bad : Bad) (i : ℕ) → (registers l s (SetState flags guest vcpu b) ≡ three (badNumber bad) i 0) ↔ FirstBadAt (judged (contextOf l s (setUse (hasBit0 flags))) b) b i bad
-    set-refused-exactly bad i =
+    pub set-refused-exactly : (bad : Bad) (i at : ℕ) → (registers l s (SetState flags guest vcpu b) ≡ three (badNumber bad) i at)
+        ↔ (FirstBadAt (judged (contextOf l s (setUse (hasBit0 flags))) b) b i bad × (offsetAt b i ≡ at))
+    set-refused-exactly bad i at =
         let k = contextOf l s (setUse (hasBit0 flags)) in
-        index-told (judged k b) b (judged-leads k b) (firstBad k b) (first-walk k b) Name.SetState (three 0 0 0) bad i (number-some bad) _ set-told (λ place. refl)
+        element-told (judged k b) b (judged-leads k b) (firstBad k b) (first-walk k b) Name.SetState (three 0 0 0) bad (number-some bad) indexFirstIn (λ bad′ place. refl) (record { index = i; offset = at }) _ set-told
 
-    pub get-refused-exactly : (bad : Bad) (i : ℕ) → (registers l s (GetState flags guest vcpu b) ≡ three (badNumber bad) i 0) ↔ FirstBadAt (judged (contextOf l s (getUse (hasBit0 flags))) b) b i bad
-    get-refused-exactly bad i =
+    pub get-refused-exactly : (bad : Bad) (i at : ℕ) → (registers l s (GetState flags guest vcpu b) ≡ three (badNumber bad) i at)
+        ↔ (FirstBadAt (judged (contextOf l s (getUse (hasBit0 flags))) b) b i bad × (offsetAt b i ≡ at))
+    get-refused-exactly bad i at =
         let k = contextOf l s (getUse (hasBit0 flags)) in
-        index-told (judged k b) b (judged-leads k b) (firstBad k b) (first-walk k b) Name.GetState (three 0 0 0) bad i (number-some bad) _ get-told (λ place. refl)
+        element-told (judged k b) b (judged-leads k b) (firstBad k b) (first-walk k b) Name.GetState (three 0 0 0) bad (number-some bad) indexFirstIn (λ bad′ place. refl) (record { index = i; offset = at }) _ get-told
 
     pub set-accepted-exactly : (registers l s (SetState flags guest vcpu b) .r3 ≡ 0) ↔ AllGood (judged (contextOf l s (setUse (hasBit0 flags))) b) b
     set-accepted-exactly =

@@ -15,7 +15,7 @@ use Rattle.answer.specs.declared.Call.{Call as Name}
 use Rattle.answer.specs.declared.Fault.{Fault}
 use Rattle.answer.specs.declared.Fault.the-variants.{None, Store, Flag, Guest, Token, Capability, Vcpu, Length, Element, Room, Exists, Unregistered, Short, Exit, Effect, Cache}
 use Rattle.answer.specs.declared.Registers.{Registers}
-use Rattle.answer.specs.Answer.{badNumber, placeShown, three, told}
+use Rattle.answer.specs.Answer.{badNumber, three, told}
 use Rattle.answer.specs.declared.Answer.{Answer}
 use Rattle.gsb.specs.declared.Verdict.{Verdict}
 use Rattle.gsb.specs.declared.Walked.{Walked}
@@ -102,6 +102,13 @@ abbrev pub toldBy : (Bad → Place → Registers) → Registers → Walked → R
 toldBy show x Done = x
 toldBy show x (Stopped bad place) = show bad place
 
+-- the place that R4 and R5 show: as get and set state and the lookup tell it, and as run does
+abbrev pub indexFirstIn : Registers → Place
+indexFirstIn r = record { index = r .r4; offset = r .r5 }
+
+abbrev pub offsetFirstIn : Registers → Place
+offsetFirstIn r = record { index = r .r5; offset = r .r4 }
+
 -- 6, 7 or 8 with the place
 abbrev pub elementTold : Name → Bad → Place → Registers
 elementTold c bad place = told c (Element bad place) 0
@@ -132,31 +139,23 @@ module _ (judge : ℕ → Verdict) (b : List ℕ) (leads : Leads judge b) (w : W
         back : AllGood judge b × (x .r3 ≡ 0) → toldBy show x w .r3 ≡ 0
         back f = ap (λ (v : Walked). toldBy show x v .r3) (is ∙ accepted-exactly judge b leads .1 (f .0)) ∙ f .1
 
-  -- what shows a bad element; x has another R3
-  module _ (c : Name) (x : Registers) (bad : Bad) (p : ℕ) (other : x .r3 ≢ badNumber bad) where
-    pub element-told : (toldBy (elementTold c) x w ≡ three (badNumber bad) p 0) ↔ ((i : ℕ) × FirstBadAt judge b i bad × (placeShown c (placeOf b i) ≡ p))
-    element-told = (there, back)
+  -- 6, 7 or 8, where R4 and R5 show the place; x has another R3. r is what is told
+  module _ (c : Name) (x : Registers) (bad : Bad) (other : x .r3 ≢ badNumber bad) (placeIn : Registers → Place) (shows : (bad′ : Bad) (place : Place) → placeIn (elementTold c bad′ place) ≡ place) where
+    pub element-told : (place : Place) (r : Registers) → r ≡ toldBy (elementTold c) x w → (r ≡ elementTold c bad place) ↔ (FirstBadAt judge b (place .index) bad × (offsetAt b (place .index) ≡ place .offset))
+    element-told place r is-told = (there, back)
       where
-        first : (toldBy (elementTold c) x w ≡ three (badNumber bad) p 0) ↔ ((i : ℕ) × (bad′ : Bad) × FirstBadAt judge b i bad′ × (elementTold c bad′ (placeOf b i) ≡ three (badNumber bad) p 0))
-        first = first-told (elementTold c) x (three (badNumber bad) p 0) (λ e. other (ap (λ (r : Registers). r .r3) e))
+        first : (toldBy (elementTold c) x w ≡ elementTold c bad place) ↔ ((i : ℕ) × (bad′ : Bad) × FirstBadAt judge b i bad′ × (elementTold c bad′ (placeOf b i) ≡ elementTold c bad place))
+        first = first-told (elementTold c) x (elementTold c bad place) (λ e. other (ap (λ (y : Registers). y .r3) e))
 
-        there : toldBy (elementTold c) x w ≡ three (badNumber bad) p 0 → (i : ℕ) × FirstBadAt judge b i bad × (placeShown c (placeOf b i) ≡ p)
+        there : r ≡ elementTold c bad place → FirstBadAt judge b (place .index) bad × (offsetAt b (place .index) ≡ place .offset)
         there e =
-            let f = first .0 e in
-            (f .0, subst (FirstBadAt judge b (f .0)) (number-bad (f .1) bad (ap (λ (r : Registers). r .r3) (f .3))) (f .2), ap (λ (r : Registers). r .r4) (f .3))
+            let f = first .0 (sym is-told ∙ e) in
+            let q : f .1 ≡ bad = number-bad (f .1) bad (ap (λ (y : Registers). y .r3) (f .3)) in
+            let p : placeOf b (f .0) ≡ place = sym (shows (f .1) (placeOf b (f .0))) ∙ ap placeIn (f .3) ∙ shows bad place in
+            (subst (λ (z : Place). FirstBadAt judge b (z .index) bad) p (subst (FirstBadAt judge b (f .0)) q (f .2)), sym (ap (λ (z : Place). offsetAt b (z .index)) p) ∙ ap (λ (z : Place). z .offset) p)
 
-        back : ((i : ℕ) × FirstBadAt judge b i bad × (placeShown c (placeOf b i) ≡ p)) → toldBy (elementTold c) x w ≡ three (badNumber bad) p 0
-        back f = first .1 (f .0, bad, f .1, ap (λ (y : ℕ). three (badNumber bad) y 0) (f .2))
-
-    -- where the place is the index; r is what is told
-    pub index-told : (r : Registers) → r ≡ toldBy (elementTold c) x w → ((place : Place) → placeShown c place ≡ place .index) → (r ≡ three (badNumber bad) p 0) ↔ FirstBadAt judge b p bad
-    index-told r e shows = (there, back)
-      where
-        there : r ≡ three (badNumber bad) p 0 → FirstBadAt judge b p bad
-        there q = let f = element-told .0 (sym e ∙ q) in subst (λ (j : ℕ). FirstBadAt judge b j bad) (sym (shows (placeOf b (f .0))) ∙ f .2) (f .1)
-
-        back : FirstBadAt judge b p bad → r ≡ three (badNumber bad) p 0
-        back f = e ∙ element-told .1 (p, f, shows (placeOf b p))
+        back : FirstBadAt judge b (place .index) bad × (offsetAt b (place .index) ≡ place .offset) → r ≡ elementTold c bad place
+        back f = is-told ∙ first .1 (place .index, bad, f .0, ap (λ (at : ℕ). elementTold c bad (record { index = place .index; offset = at })) (f .1))
 
   -- 0 where the walk found none: exactly if every counted element is good
   pub zero-told : (c : Name) (r : Registers) → r ≡ toldBy (elementTold c) (three 0 0 0) w → (r .r3 ≡ 0) ↔ AllGood judge b

@@ -65,6 +65,9 @@ r3 s c = registers small s c .r3
 unfoldable pub r4 : List ℕ → Call → ℕ
 r4 s c = registers small s c .r4
 
+unfoldable pub r5 : List ℕ → Call → ℕ
+r5 s c = registers small s c .r5
+
 -- how many zeros a list begins with
 unfoldable pub zerosBefore : List ℕ → ℕ
 zerosBefore [] = 0
@@ -105,6 +108,8 @@ edgesOf s t =
     ∷ (r3 (registered s) (runThread (2 ^ 60) (digits 28 0)), 2) ∷ (r4 (registered s) (runThread (2 ^ 60) (digits 28 0)), 3)
     -- "0x1003 (8 bytes) then 0x1054: set state R4 1, run R4 16."
     ∷ (r3 s (setThread goodThenBad), 6) ∷ (r4 s (setThread goodThenBad), 1) ∷ (r3 (registered s) (runThread 0 goodThenBad), 6) ∷ (r4 (registered s) (runThread 0 goodThenBad), 16)
+    -- 02, L4: "Set and get state .. keep R4 as the index and put the byte offset in R5; run keeps the offset in R4 and puts the index in R5"
+    ∷ (r5 s (setThread goodThenBad), 16) ∷ (r5 (registered s) (runThread 0 goodThenBad), 1)
     -- "Slot word, guest 3, vCPU 2047: 0x9FFF; guest 1, vCPU 0: 0x8800."
     ∷ (wordOf small 3 2047, 0x9FFF) ∷ (word small (header small t) 0, 0x9FFF) ∷ (wordOf small 1 0, 0x8800) ∷ (word small (header small t) 1, 0x8800)
     -- L2: "The starred clock case becomes: offset 2^64-1 acts as 0, clock 5. Offset 1, timebase 5 gives 16,777,221."

@@ -9,7 +9,7 @@ use Rattle.gsb.specs.Walk.{judged, walkOn, walk, firstBad}
 use Rattle.render.specs.Text.{ascii, shown}
 use Rattle.render.specs.Listing.{firstLine, verdictText, line, onGood, lines, refusedLine, lastLine, listing, example}
 
-pub as-printed : listing example ≡ ascii "elements 2 bytes 24\n0 4 1003 8 ok\n1 16 0003 4 bad\nanswer 6 index 1\n"
+pub as-printed : listing example ≡ ascii "elements 2 bytes 24\n0 4 1003 8 ok\n1 16 0003 4 bad\nanswer 6 index 1 offset 16\n"
 unfolding be table find kindOf allows permits sizeFits ruleOf goodValue judged walkOn walk firstBad shown firstLine verdictText line onGood lines refusedLine lastLine listing
 as-printed = refl
 
@@ -19,7 +19,7 @@ unfolding listing
 too-short = refl
 
 -- "A header that does not fit prints no such line."
-pub cut-header : listing (0 ∷ 0 ∷ 0 ∷ 1 ∷ 0x10 ∷ []) ≡ ascii "elements 1 bytes 5\nanswer 7 index 0\n"
+pub cut-header : listing (0 ∷ 0 ∷ 0 ∷ 1 ∷ 0x10 ∷ []) ≡ ascii "elements 1 bytes 5\nanswer 7 index 0 offset 4\n"
 unfolding be judged walkOn walk firstBad shown firstLine lines refusedLine lastLine listing
 cut-header = refl
 

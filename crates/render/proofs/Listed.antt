@@ -47,11 +47,19 @@ module _ {s : List ℕ} {at : ℕ} {t₁ t₂ t₃ t₄ t₅ : List ℕ} {p₁ p
       (wrote-five (ascii "elements ") (decimal count) (ascii " bytes ") (decimal (length b)) (ascii "\n") v w x y z)
       (ap (λ (n : ℕ). ascii "elements " ++ (decimal n ++ (ascii " bytes " ++ (decimal (length b) ++ ascii "\n")))) e)
 
-  pub wrote-refused : (r : Registers) → Printed s at (ascii "answer ") t₁ p₁ → Printed t₁ p₁ (decimal (r .r3)) t₂ p₂
-      → Printed t₂ p₂ (ascii " index ") t₃ p₃ → Printed t₃ p₃ (decimal (r .r4)) t₄ p₄ → Printed t₄ p₄ (ascii "\n") t₅ p₅
-      → Printed s at (refusedLine r) t₅ p₅
+  pub wrote-refused : {t₆ t : List ℕ} {p₆ p : ℕ} (r : Registers) → Printed s at (ascii "answer ") t₁ p₁ → Printed t₁ p₁ (decimal (r .r3)) t₂ p₂
+      → Printed t₂ p₂ (ascii " index ") t₃ p₃ → Printed t₃ p₃ (decimal (r .r4)) t₄ p₄ → Printed t₄ p₄ (ascii " offset ") t₅ p₅
+      → Printed t₅ p₅ (decimal (r .r5)) t₆ p₆ → Printed t₆ p₆ (ascii "\n") t p → Printed s at (refusedLine r) t p
   unfolding refusedLine
-  wrote-refused r v w x y z = wrote-five (ascii "answer ") (decimal (r .r3)) (ascii " index ") (decimal (r .r4)) (ascii "\n") v w x y z
+  wrote-refused {t₆} {t} {p₆} {p} r u v w x y z e =
+      let last = decimal (r .r5) ++ ascii "\n" in
+      let index = ascii " index " ++ (decimal (r .r4) ++ (ascii " offset " ++ last)) in
+      wrote-then s at (ascii "answer ") (decimal (r .r3) ++ index) t₁ t p₁ p u
+      (wrote-then t₁ p₁ (decimal (r .r3)) index t₂ t p₂ p v
+      (wrote-then t₂ p₂ (ascii " index ") (decimal (r .r4) ++ (ascii " offset " ++ last)) t₃ t p₃ p w
+      (wrote-then t₃ p₃ (decimal (r .r4)) (ascii " offset " ++ last) t₄ t p₄ p x
+      (wrote-then t₄ p₄ (ascii " offset ") last t₅ t p₅ p y
+      (wrote-then t₅ p₅ (decimal (r .r5)) (ascii "\n") t₆ t p₆ p z e)))))
 
   pub wrote-line : {t : List ℕ} {p : ℕ} (index offset id size : ℕ) (v : Verdict) → Printed s at (decimal index ++ ascii " ") t₁ p₁
       → Printed t₁ p₁ (decimal offset ++ ascii " ") t₂ p₂ → Printed t₂ p₂ (hex4 id) t₃ p₃ → Printed t₃ p₃ (ascii " ") t₄ p₄

@@ -48,9 +48,10 @@ lines b (suc n) index at =
     cond (ltb (length b) (at + 4)) []
     (line index at (idAt b at) (sizeAt b at) (judged threadSet b at) ++ onGood (judged threadSet b at) (λ next. lines b n (index + 1) next))
 
--- "Last: R3 and R4, or `answer 0` alone."
+-- "Last: R3 and R4, or `answer 0` alone." 02, L4: "The listing's last line gains ` offset N` after the index."
 unfoldable pub refusedLine : Registers → List ℕ
-refusedLine r = ascii "answer " ++ (decimal (r .r3) ++ (ascii " index " ++ (decimal (r .r4) ++ ascii "\n")))
+refusedLine r =
+    ascii "answer " ++ (decimal (r .r3) ++ (ascii " index " ++ (decimal (r .r4) ++ (ascii " offset " ++ (decimal (r .r5) ++ ascii "\n")))))
 
 unfoldable pub lastLine : Walked → List ℕ
 lastLine Done = ascii "answer 0\n"
@@ -64,7 +65,7 @@ listing b =
 
 -- Room for every listing: at most 16,383 lines of at most 27 characters, the first and the last.
 abbrev pub room : ℕ
-room = 442432
+room = 442496
 
 pub record RenderOutcome : Type 0 where
   pub result : Rendered

@@ -18,7 +18,7 @@ pub enum Rendered {
 }
 
 // Room for the longest listing: at most 16,383 lines of 27 characters, the first and the last.
-pub const ROOM: usize = 442432;
+pub const ROOM: usize = 442496;
 
 pub fn render(b: &[u8], text: &mut [u8]) -> Rendered
     ensures { λ r. ⌜ _≡_ {A = RenderOutcome} (record { result = r; text = now (text .exit) }) (rendered (now (b .entry)) (now (text .entry))) ⌝ }

@@ -97,19 +97,21 @@ pub fn push_lines(b: &[u8], text: &mut [u8], at: usize) -> usize
 }
 
 fn push_refused(text: &mut [u8], at: usize, answer: Registers) -> usize
-    requires { ⌜ at + 55 ≤ length (now text) ⌝ }
-    ensures { λ r. ⌜ Printed (now (text .entry)) at (refusedLine answer) (now (text .exit)) r × (r ≤ at + 55) ⌝ }
+    requires { ⌜ at + 83 ≤ length (now text) ⌝ }
+    ensures { λ r. ⌜ Printed (now (text .entry)) at (refusedLine answer) (now (text .exit)) r × (r ≤ at + 83) ⌝ }
 {
     let mut end = push(text, at, b"answer ");
     end = push_decimal(text, end, answer.r3, 20);
     end = push(text, end, b" index ");
     end = push_decimal(text, end, answer.r4, 20);
+    end = push(text, end, b" offset ");
+    end = push_decimal(text, end, answer.r5, 20);
     push(text, end, b"\n")
 }
 
 pub fn push_answer(b: &[u8], text: &mut [u8], at: usize) -> usize
-    requires { ⌜ (4 ≤ length (now b)) × (at + 55 ≤ length (now text)) ⌝ }
-    ensures { λ r. ⌜ Printed (now (text .entry)) at (lastLine (firstBad threadSet (now (b .entry)))) (now (text .exit)) r × (r ≤ at + 55) ⌝ }
+    requires { ⌜ (4 ≤ length (now b)) × (at + 83 ≤ length (now text)) ⌝ }
+    ensures { λ r. ⌜ Printed (now (text .entry)) at (lastLine (firstBad threadSet (now (b .entry)))) (now (text .exit)) r × (r ≤ at + 83) ⌝ }
 {
     let k = Context {
         usage: Usage::ThreadSet,

@@ -1,6 +1,6 @@
 -- Each arm is a row of the table: the laws `row..` of Laws.
 use borrow.Author.Needs.{needs}
-use Rattle.answer.proofs.Laws.{row, row-element, row-unregistered, row-short}
+use Rattle.answer.proofs.Laws.{row, row-element, row-unregistered, row-short, row-effect}
 use Rattle.answer.proofs.registers_of.Statement.{statement}
 use Rattle.answer.proofs.registers_of.Tie as tie
 
@@ -61,20 +61,20 @@ bad-number-requires c κs = search needs
 place-shown-requires : tie.Need-place-shown-requires
 place-shown-requires c κs = search needs
 
-three-requires-9 : tie.Need-three-requires-9
-three-requires-9 c κs = search needs
+with-place-requires : tie.Need-with-place-requires
+with-place-requires c κs = search needs
 
 enum-told-8 : tie.Need-enum-told-8
 enum-told-8 c = search needs
 
-three-requires-10 : tie.Need-three-requires-10
-three-requires-10 c κs = search needs
+three-requires-9 : tie.Need-three-requires-9
+three-requires-9 c κs = search needs
 
 enum-told-9 : tie.Need-enum-told-9
 enum-told-9 c = search needs
 
-three-requires-11 : tie.Need-three-requires-11
-three-requires-11 c κs = search needs
+three-requires-10 : tie.Need-three-requires-10
+three-requires-10 c κs = search needs
 
 enum-known-fault-3 : tie.Need-enum-known-fault-3
 enum-known-fault-3 c = search needs
@@ -82,8 +82,8 @@ enum-known-fault-3 c = search needs
 buffer-number-requires : tie.Need-buffer-number-requires
 buffer-number-requires c κs = search needs
 
-three-requires-12 : tie.Need-three-requires-12
-three-requires-12 c κs = search needs
+three-requires-11 : tie.Need-three-requires-11
+three-requires-11 c κs = search needs
 
 enum-known-fault-4 : tie.Need-enum-known-fault-4
 enum-known-fault-4 c = search needs
@@ -91,26 +91,29 @@ enum-known-fault-4 c = search needs
 buffer-number-requires-2 : tie.Need-buffer-number-requires-2
 buffer-number-requires-2 c κs = search needs
 
-three-requires-13 : tie.Need-three-requires-13
-three-requires-13 c κs = search needs
+three-requires-12 : tie.Need-three-requires-12
+three-requires-12 c κs = search needs
 
 enum-told-10 : tie.Need-enum-told-10
 enum-told-10 c = search needs
 
-three-requires-14 : tie.Need-three-requires-14
-three-requires-14 c κs = search needs
+three-requires-13 : tie.Need-three-requires-13
+three-requires-13 c κs = search needs
 
 enum-known-fault-5 : tie.Need-enum-known-fault-5
 enum-known-fault-5 c = search needs
 
-three-requires-15 : tie.Need-three-requires-15
-three-requires-15 c κs = search needs
+place-shown-requires-2 : tie.Need-place-shown-requires-2
+place-shown-requires-2 c κs = search needs
+
+with-place-requires-2 : tie.Need-with-place-requires-2
+with-place-requires-2 c κs = search needs
 
 enum-told-11 : tie.Need-enum-told-11
 enum-told-11 c = search needs
 
-three-requires-16 : tie.Need-three-requires-16
-three-requires-16 c κs = search needs
+three-requires-14 : tie.Need-three-requires-14
+three-requires-14 c κs = search needs
 
 returns : tie.Need-returns
 returns c = search (needs, row)
@@ -155,7 +158,7 @@ returns-14 : tie.Need-returns-14
 returns-14 c = search (needs, row)
 
 returns-15 : tie.Need-returns-15
-returns-15 c = search (needs, row)
+returns-15 c = search (needs, row-effect)
 
 returns-16 : tie.Need-returns-16
 returns-16 c = search (needs, row)
@@ -183,23 +186,24 @@ registers-of-spec =
     enum-known-fault-2
     bad-number-requires
     place-shown-requires
-    three-requires-9
+    with-place-requires
     enum-told-8
-    three-requires-10
+    three-requires-9
     enum-told-9
-    three-requires-11
+    three-requires-10
     enum-known-fault-3
     buffer-number-requires
-    three-requires-12
+    three-requires-11
     enum-known-fault-4
     buffer-number-requires-2
-    three-requires-13
+    three-requires-12
     enum-told-10
-    three-requires-14
+    three-requires-13
     enum-known-fault-5
-    three-requires-15
+    place-shown-requires-2
+    with-place-requires-2
     enum-told-11
-    three-requires-16
+    three-requires-14
     returns
     returns-2
     returns-3

@@ -1,4 +1,4 @@
--- Five texts one behind the other: `wrote-refused`.
+-- Seven texts one behind the other: `wrote-refused`.
 use Rattle.render.proofs.Listed.{wrote-refused}
 use borrow.Author.Needs.{needs}
 use Rattle.render.proofs.lines.push_refused.Statement.{statement}
@@ -28,16 +28,28 @@ slice-aggregate-push-3 c = search needs
 push-requires-3 : tie.Need-push-requires-3
 push-requires-3 c κs = search needs
 
+push-decimal-requires-3 : tie.Need-push-decimal-requires-3
+push-decimal-requires-3 c κs = search needs
+
+slice-aggregate-push-4 : tie.Need-slice-aggregate-push-4
+slice-aggregate-push-4 c = search needs
+
+push-requires-4 : tie.Need-push-requires-4
+push-requires-4 c κs = search needs
+
 same-length : tie.Need-same-length
 same-length c = search needs
 
 returns : tie.Need-returns
 returns c =
-    let place = c .before .before .before .before .before .before .before in
-    let word = place .before .before .before .before in
-    let number = word .before .before .before .before .before in
+    let offset = c .before .before .before .before .before .before .before in
+    let second = offset .before .before .before .before in
+    let index = second .before .before .before .before .before in
+    let first = index .before .before .before .before in
+    let number = first .before .before .before .before .before in
     let answer = number .before .before .before .before in (
-      wrote-refused _ (answer .push .ensures) (number .push-decimal .ensures .0) (word .push2 .ensures) (place .push-decimal2 .ensures .0) (c .before .before .push3 .ensures),
+      wrote-refused _ (answer .push .ensures) (number .push-decimal .ensures .0) (first .push2 .ensures) (index .push-decimal2 .ensures .0) (second .push3 .ensures) (offset .push-decimal3 .ensures .0)
+          (c .before .before .push4 .ensures),
       search needs,
     )
 
@@ -53,5 +65,8 @@ push-refused-spec =
     push-decimal-requires-2
     slice-aggregate-push-3
     push-requires-3
+    push-decimal-requires-3
+    slice-aggregate-push-4
+    push-requires-4
     same-length
     returns)
