@@ -15,7 +15,8 @@
  *                 element was read and set where its access permits and refused where not, in a run's input and effect
  *                 too; each edge of a value rule, of a buffer's length and of a registered size was met; each exit was
  *                 accepted, and numbers close to one were refused; the clock was asked for each pair of a TB offset and
- *                 a timebase at their edges
+ *                 a timebase at their edges; with each bitmap agreed, each and one that is not offered was asked for,
+ *                 while guests lived and while none did
  *
  * The run ends at the first difference.
  */
@@ -29,10 +30,21 @@
 
 static const struct l0 library = L0_LIBRARY, model = L0_MODEL;
 
+/* The bitmaps that are offered. The number behind them stands for all others. */
+enum { BITMAP_COUNT = 4 };
+
+static const uint64_t BITMAPS[BITMAP_COUNT] = {
+    0, ADK_CAP_POWER9, ADK_CAP_POWER10, ADK_CAP_POWER9 | ADK_CAP_POWER10
+};
+static const char *const BITMAP_NAME[BITMAP_COUNT + 1] = {
+    "nothing", "POWER9", "POWER10", "POWER9 and POWER10", "what is not offered"
+};
+
 /* ---- The comparison ---- */
 
 struct run {
     uint64_t seed, calls, number;
+    uint64_t agreed; /* before the call */
     bool quiet;
     uint64_t tally[KIND_COUNT][ANSWERS];
     unsigned with_r4[KIND_COUNT][2];        /* the answers given with r4 0, and with another r4 */
@@ -46,6 +58,7 @@ struct run {
     bool lent[2][3];                        /* of input and output: one byte short, as registered, one more */
     bool exits[EXIT_COUNT], no_exits[NO_EXIT_COUNT];
     bool clocks[OFFSET_COUNT][TIMEBASE_COUNT]; /* which pairs the clock was told for */
+    bool bitmaps[BITMAP_COUNT][BITMAP_COUNT + 1][2]; /* which was agreed, which asked for, and whether a guest lived */
 };
 
 static const size_t LENGTHS[] = { 0, 1, 2, 3, 4, 5, 6, 7, 8, ADK_BUFFER_MAX - 1, ADK_BUFFER_MAX, ADK_BUFFER_MAX + 1 };
@@ -170,6 +183,21 @@ static void note_clock(struct run *r, const struct call *c)
             r->clocks[o][t] |= offset == TB_OFFSETS[o] && c->n[1] == TIMEBASES[t];
 }
 
+static size_t bitmap_number(uint64_t bitmap)
+{
+    size_t i = 0;
+    while (i < BITMAP_COUNT && BITMAPS[i] != bitmap)
+        i++;
+    return i;
+}
+
+/* A bitmap that was judged, so the store is well formed. */
+static void note_bitmap(struct run *r, const struct call *c)
+{
+    bool alive = memory[BEFORE][STORE][LIVE] != 0;
+    r->bitmaps[bitmap_number(r->agreed)][bitmap_number(c->n[1])][alive] = true;
+}
+
 /* The length that 5 or, in a run, 14 judged; or one that is no edge. */
 static size_t judged_length(const struct call *c, const adk_found *f)
 {
@@ -196,11 +224,14 @@ static void note(struct run *r, const struct call *c, const adk_found *f)
         note_run(r, c, f);
     else if (is_clock(c->kind) && f->r3 == ADK_OK)
         note_clock(r, c);
+    else if (sets_capabilities(c->kind) && f->r3 != ADK_BAD_STORE && f->r3 != ADK_BAD_FLAG)
+        note_bitmap(r, c);
 }
 
 /* One call on both sides; 0 if nothing differs. expected is the answer, or NULL where only the model tells it. */
 static int compare_call(struct run *r, const struct call *c, const adk_found *expected)
 {
+    r->agreed = agreed();
     adk_found lib = c->kind->make(&library, c, memory[LIBRARY]);
     adk_found mdl = c->kind->make(&model, c, memory[OTHER]);
     if (expected != NULL && !same_answer(&lib, expected)) {
@@ -461,6 +492,20 @@ static bool clocks_covered(const struct run *r)
     return all;
 }
 
+static bool bitmaps_covered(const struct run *r)
+{
+    bool all = true;
+    for (size_t was = 0; was < BITMAP_COUNT; was++)
+        for (size_t asked = 0; asked <= BITMAP_COUNT; asked++)
+            for (int alive = 0; alive < 2; alive++)
+                if (!r->bitmaps[was][asked][alive]) {
+                    printf("  with %s agreed and %s, set_capabilities never judged %s\n", BITMAP_NAME[was],
+                           alive ? "a guest alive" : "no guest alive", BITMAP_NAME[asked]);
+                    all = false;
+                }
+    return all;
+}
+
 static int finish(const struct run *r)
 {
     if (!r->quiet)
@@ -474,6 +519,7 @@ static int finish(const struct run *r)
     all = edges_covered(r) && all;
     all = runs_covered(r) && all;
     all = clocks_covered(r) && all;
+    all = bitmaps_covered(r) && all;
     printf("%s compare coverage\n", all ? "passed" : "failed");
     return all ? 0 : 1;
 }

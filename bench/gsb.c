@@ -96,7 +96,7 @@ const struct edge VALUE_EDGES[] = {
     { 0x0C01, ANY, 0xFFFFFFFFFFFFFFFF, false },
 };
 
-static uint64_t agreed(void)
+uint64_t agreed(void)
 {
     return adk_read_be(memory[BEFORE][STORE], 8);
 }

@@ -45,6 +45,9 @@ extern const struct edge {
     bool good;
 } VALUE_EDGES[EDGE_COUNT];
 
+/* The capabilities that are agreed in the store before the call. */
+uint64_t agreed(void);
+
 /* The number in a value that a rule judges. */
 uint64_t ruled_number(const uint8_t *value, unsigned id);
 

@@ -1,6 +1,6 @@
 /*
  * model.c: the rules of document 01 in plain C, as the requests of 02 amend them. It shares no text with the library, so
- * that a mistake in either shows as a difference. Quoted names are sections of 01; L2 and L4 are requests of 02.
+ * that a mistake in either shows as a difference. Quoted names are sections of 01; L2, L4 and L12 are requests of 02.
  */
 #include "model.h"
 
@@ -156,7 +156,8 @@ adk_answer mdl_get_capabilities(const uint8_t *store, size_t store_len, uint64_t
     return answer(0, OFFERED);
 }
 
-/* "Answers", others 1, 2, 3, and 3: capabilities have R4 1, R5 0. "The store": set stores the bitmap. */
+/* "Answers", others 1, 2, 3, and 3: capabilities have R4 1, R5 0. 02, L12: 21 after 3 while any guest lives, unless the
+   bitmap equals the agreed one. "The store": set stores the bitmap. */
 adk_answer mdl_set_capabilities(uint8_t *store, size_t store_len, uint64_t flags, uint64_t bitmap)
 {
     if (!well_formed(store, store_len))
@@ -165,6 +166,8 @@ adk_answer mdl_set_capabilities(uint8_t *store, size_t store_len, uint64_t flags
         return bad_flag(flags);
     if ((bitmap & ~OFFERED) != 0)
         return answer(3, 1);
+    if (store[LIVE] != 0 && bitmap != load64(store + CAPABILITIES))
+        return answer(21, 0);
     store64(store + CAPABILITIES, bitmap);
     return answer(0, 0);
 }

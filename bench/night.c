@@ -120,15 +120,18 @@ static uint64_t any_flags(uint64_t good)
     return percent(85) ? good : good | bad_flags();
 }
 
+/* One that is offered, which may be equal to the agreed one, smaller or larger; the agreed one; or bits that are not
+   offered, with and without those that are agreed. */
 static uint64_t any_bitmap(void)
 {
     uint64_t offered = ADK_CAP_POWER9 | ADK_CAP_POWER10;
     uint64_t good = any64() & offered;
     switch (below(8)) {
     case 0: return any_bit();
-    case 1: return good | any_bit();
+    case 1: return percent(50) ? good | any_bit() : agreed() ^ any_bit();
     case 2: return any_number();
     case 3: return percent(50) ? ~offered : any64();
+    case 4: return agreed();
     default: return good;
     }
 }
@@ -591,7 +594,7 @@ const struct kind KINDS[] = {
     { "get_capabilities", ON(get_capabilities), .number = { "flags" }, .use = { [STORE] = READ },
       .weight = { 16, 16, 16 }, .answers = A(0) | A(1) | A(2) },
     { "set_capabilities", ON(set_capabilities), .number = { "flags", "bitmap" }, .use = { [STORE] = WRITTEN },
-      .weight = { 12, 12, 12 }, .answers = A(0) | A(1) | A(2) | A(3) },
+      .weight = { 12, 12, 12 }, .answers = A(0) | A(1) | A(2) | A(3) | A(21) },
     { "create_guest", ON(create_guest), .number = { "flags", "token" }, .use = { [STORE] = WRITTEN },
       .weight = { 30, 20, 8 }, .answers = A(0) | A(1) | A(2) | A(3) | A(9) },
     { "create_vcpu", ON(create_vcpu), .number = { "flags", "guest", "vcpu" }, .use = { [STORE] = WRITTEN },
@@ -642,6 +645,11 @@ bool is_clock(const struct kind *k)
     return k->make == make_guest_clock;
 }
 
+bool sets_capabilities(const struct kind *k)
+{
+    return k->make == make_set_capabilities;
+}
+
 bool can_answer(const struct kind *k, int answer, struct manner m)
 {
     return (k->answers & A(answer)) != 0 && !(m.opaque && answer == ADK_BAD_STORE);
@@ -650,13 +658,21 @@ bool can_answer(const struct kind *k, int answer, struct manner m)
 /* What is called most often changes now and then, so that the store fills and empties. */
 static unsigned mood;
 
+/* What is agreed stays while a guest lives. So it is mostly changed while none does: then guests come to live with each
+   set of capabilities, and both logical PVRs are set. */
+static unsigned weight_of(const struct kind *k)
+{
+    bool may_change = sets_capabilities(k) && memory[BEFORE][STORE][LIVE] == 0;
+    return may_change ? 4 * k->weight[mood] : k->weight[mood];
+}
+
 static const struct kind *any_kind(void)
 {
     unsigned all = 0, k = 0;
     for (size_t i = 0; i < COUNT(KINDS); i++)
-        all += KINDS[i].weight[mood];
-    for (unsigned at = below(all); at >= KINDS[k].weight[mood]; k++)
-        at -= KINDS[k].weight[mood];
+        all += weight_of(&KINDS[i]);
+    for (unsigned at = below(all); at >= weight_of(&KINDS[k]); k++)
+        at -= weight_of(&KINDS[k]);
     return &KINDS[k];
 }
 

@@ -12,7 +12,8 @@
 #include "gsb.h"
 #include "l0.h"
 
-enum { NUMBERS = 4, MOODS = 3, ANSWERS = 16, KIND_COUNT = 13, EXIT_COUNT = 7, NO_EXIT_COUNT = 34 };
+/* Answers are 0 to 21; no call of a night gives 15 to 20. */
+enum { NUMBERS = 4, MOODS = 3, ANSWERS = 22, KIND_COUNT = 13, EXIT_COUNT = 7, NO_EXIT_COUNT = 34 };
 enum { TIMEBASE_COUNT = 11 };
 enum use { NOT_LENT, READ, WRITTEN };
 
@@ -44,6 +45,7 @@ bool is_run(const struct kind *k);
 /* L4: whether an answer of the call tells a bad element's index and offset. A lookup's 6 has none: it tells the count. */
 bool tells_place(const struct kind *k, uint64_t answer);
 bool is_clock(const struct kind *k);
+bool sets_capabilities(const struct kind *k);
 
 /* Exit reasons; and numbers close to one, other interrupts, and exit reasons where only the low or the high bits are
    kept. */

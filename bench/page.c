@@ -214,16 +214,18 @@ static void put_told(FILE *to, const struct figures *f)
 
 static void put_answers(FILE *to, const struct cover *v, struct manner manner)
 {
-    int highest = highest_answer();
     fputs("<h2>Answers by call</h2>\n<p>How often the library gave each answer. A dash: the call cannot give it. A "
           "marked 0: it can, and did not in this night.</p>\n<table class=\"narrow\"><tr><th>R3</th>", to);
-    for (int a = 0; a <= highest; a++)
-        fprintf(to, "<th class=\"n\" title=\"%s\">%d</th>", adk_answer_name((uint64_t)a), a);
+    for (int a = 0; a < ANSWERS; a++)
+        if (some_call_gives(a))
+            fprintf(to, "<th class=\"n\" title=\"%s\">%d</th>", adk_answer_name((uint64_t)a), a);
     fputs("</tr>\n", to);
     for (size_t k = 0; k < KIND_COUNT; k++) {
         fprintf(to, "<tr class=\"call\"><td>%s</td>", KINDS[k].name);
-        for (int a = 0; a <= highest; a++)
-            if (!can_answer(&KINDS[k], a, manner))
+        for (int a = 0; a < ANSWERS; a++)
+            if (!some_call_gives(a))
+                continue;
+            else if (!can_answer(&KINDS[k], a, manner))
                 fputs("<td class=\"no\">&ndash;</td>", to);
             else if (v->answers[k][a] == 0)
                 fputs("<td class=\"n zero\">0</td>", to);
@@ -232,8 +234,9 @@ static void put_answers(FILE *to, const struct cover *v, struct manner manner)
         fputs("</tr>\n", to);
     }
     fputs("</table>\n<p class=\"over\">", to);
-    for (int a = 0; a <= highest; a++)
-        fprintf(to, "%s%d %s", a == 0 ? "" : ", ", a, adk_answer_name((uint64_t)a));
+    for (int a = 0; a < ANSWERS; a++)
+        if (some_call_gives(a))
+            fprintf(to, "%s%d %s", a == 0 ? "" : ", ", a, adk_answer_name((uint64_t)a));
     fputs("</p>\n", to);
 }
 

@@ -230,29 +230,27 @@ void print_lent(const struct telling *t, size_t store_bytes)
     }
 }
 
-int highest_answer(void)
+bool some_call_gives(int answer)
 {
-    int highest = 0;
     for (size_t k = 0; k < KIND_COUNT; k++)
-        for (int a = 0; a < ANSWERS; a++)
-            if (KINDS[k].answers & A(a) && a > highest)
-                highest = a;
-    return highest;
+        if (KINDS[k].answers & A(answer))
+            return true;
+    return false;
 }
 
 void print_tally(FILE *to, const uint64_t tally[KIND_COUNT][ANSWERS], struct manner manner)
 {
-    int highest = highest_answer();
     fprintf(to, "%-18s", "answer");
-    for (int a = 0; a <= highest; a++)
-        fprintf(to, "%8d", a);
+    for (int a = 0; a < ANSWERS; a++)
+        if (some_call_gives(a))
+            fprintf(to, "%8d", a);
     fprintf(to, "\n");
     for (size_t k = 0; k < KIND_COUNT; k++) {
         fprintf(to, "%-18s", KINDS[k].name);
-        for (int a = 0; a <= highest; a++)
+        for (int a = 0; a < ANSWERS; a++)
             if (can_answer(&KINDS[k], a, manner))
                 fprintf(to, "%8" PRIu64, tally[k][a]);
-            else
+            else if (some_call_gives(a))
                 fprintf(to, "%8s", "-");
         fprintf(to, "\n");
     }

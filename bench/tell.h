@@ -29,8 +29,8 @@ struct telling {
    changed something, after it. */
 void print_lent(const struct telling *t, size_t store_bytes);
 
-/* The highest answer that any call can give. */
-int highest_answer(void);
+/* Whether there is a call that can give the answer. */
+bool some_call_gives(int answer);
 
 /* How often each call gave each answer, in a night of this manner. */
 void print_tally(FILE *to, const uint64_t tally[KIND_COUNT][ANSWERS], struct manner manner);

@@ -272,8 +272,9 @@ enum {
  * 14  ADK_BAD_EFFECT              run: the effect has under ADK_BUFFER_MIN or over ADK_BUFFER_MAX bytes, or a bad
  *                                 element. r4: the byte offset of its first bad element; r5: that one's index; both 0
  *                                 if its length is bad
+ * 21  ADK_CAPABILITIES_IN_USE     set capabilities: a guest is live, and the bitmap is not the agreed one
  *
- * 15 is a fault of the L1 cache, which C cannot call.
+ * 15 is a fault of the L1 cache, which C cannot call. 16 to 20 are not given.
  */
 enum {
     ADK_OK = 0,
@@ -290,7 +291,8 @@ enum {
     ADK_NOT_REGISTERED = 11,
     ADK_LENT_TOO_SHORT = 12,
     ADK_UNKNOWN_EXIT = 13,
-    ADK_BAD_EFFECT = 14
+    ADK_BAD_EFFECT = 14,
+    ADK_CAPABILITIES_IN_USE = 21
 };
 
 typedef struct {
@@ -324,10 +326,12 @@ adk_answer adk_fresh_store(uint8_t *store, size_t store_len);
 adk_answer adk_get_capabilities(const uint8_t *store, size_t store_len, uint64_t flags);
 
 /*
- * H_GUEST_SET_CAPABILITIES. Agrees on the capabilities in bitmap, in place of those agreed before. The bitmap may be 0,
- * and guests may be live.
+ * H_GUEST_SET_CAPABILITIES. Agrees on the capabilities in bitmap, in place of those agreed before. The bitmap may be 0.
+ * While a guest is live what is agreed stays, so that no guest is left with a logical PVR that is no longer agreed.
+ * Then only the agreed bitmap is accepted, and changes nothing.
  *
- * Answers: ADK_BAD_STORE, ADK_BAD_FLAG, ADK_BAD_PARAMETER (r4 1, r5 0: a bit that is not offered), ADK_OK.
+ * Answers: ADK_BAD_STORE, ADK_BAD_FLAG, ADK_BAD_PARAMETER (r4 1, r5 0: a bit that is not offered),
+ * ADK_CAPABILITIES_IN_USE (a guest is live, and bitmap is not the agreed one), ADK_OK.
  */
 adk_answer adk_set_capabilities(uint8_t *store, size_t store_len, uint64_t flags, uint64_t bitmap);
 

@@ -254,9 +254,10 @@ static inline const char *adk_answer_name(uint64_t r3)
     static const char *const names[] = {
         "success", "store not well formed", "unsupported flag", "bad parameter", "bad vCPU", "bad length",
         "invalid element ID", "invalid element size", "invalid element value", "not enough resources", "vCPU exists",
-        "run buffer not registered", "lent too short", "unknown exit", "bad effect", "cache not well formed"
+        "run buffer not registered", "lent too short", "unknown exit", "bad effect", "cache not well formed",
+        NULL, NULL, NULL, NULL, NULL, "capabilities in use"
     };
-    return r3 < sizeof names / sizeof names[0] ? names[r3] : "no answer of a call";
+    return r3 < sizeof names / sizeof names[0] && names[r3] != NULL ? names[r3] : "no answer of a call";
 }
 
 static inline const char *adk_exit_name(uint64_t exit_reason)
@@ -283,6 +284,7 @@ enum {
     ADK_H_P2 = -55,
     ADK_H_P3 = -56,
     ADK_H_P5 = -58,
+    ADK_H_STATE = -75,
     ADK_H_IN_USE = -77,
     ADK_H_INVALID_ELEMENT_ID = -79,
     ADK_H_INVALID_ELEMENT_SIZE = -80,
@@ -299,8 +301,9 @@ enum {
 
 /*
  * The return code of a hypercall that is answered so. A guest, a token and a bitmap are a call's second parameter, a
- * vCPU id its third, the size of a buffer its fifth. Of adk_guest_clock and adk_lookup, which are no hypercalls, it is
- * that of a hypercall with this answer.
+ * vCPU id its third, the size of a buffer its fifth. ADK_H_IN_USE says that what the call names is taken, a vCPU id;
+ * ADK_H_STATE that the call does not fit the state it meets, capabilities that would change under a live guest. Of
+ * adk_guest_clock and adk_lookup, which are no hypercalls, it is that of a hypercall with this answer.
  */
 static inline int64_t adk_papr_code(uint64_t r3, uint64_t r4)
 {
@@ -317,6 +320,7 @@ static inline int64_t adk_papr_code(uint64_t r3, uint64_t r4)
     case ADK_VCPU_EXISTS: return ADK_H_IN_USE;
     case ADK_NOT_REGISTERED: return r4 == 0 ? ADK_H_INPUT_BUFFER_NOT_DEFINED : ADK_H_OUTPUT_BUFFER_NOT_DEFINED;
     case ADK_LENT_TOO_SHORT: return r4 == 0 ? ADK_H_INPUT_BUFFER_TOO_SMALL : ADK_H_OUTPUT_BUFFER_TOO_SMALL;
+    case ADK_CAPABILITIES_IN_USE: return ADK_H_STATE;
     default: return ADK_H_NONE;
     }
 }

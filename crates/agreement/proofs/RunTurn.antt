@@ -10,7 +10,7 @@ use borrow.Author.Tests.{le-ltb, ltb-false, leb-true, not-false, eqb-true, ne-eq
 use Rattle.octets.specs.Bytes.{bytesAt, put, zeros}
 use Rattle.octets.proofs.Bytes.{length-put, length-zeros}
 use Rattle.answer.specs.declared.Fault.{Fault}
-use Rattle.answer.specs.declared.Fault.the-variants.{None, Store, Flag, Guest, Token, Capability, Vcpu, Length, Element, Room, Exists, Unregistered, Short, Exit, Effect, Cache as CacheBad}
+use Rattle.answer.specs.declared.Fault.the-variants.{None, Store, Flag, Guest, Token, Capability, Vcpu, Length, Element, Room, Exists, Unregistered, Short, Exit, Effect, Cache as CacheBad, InUse}
 use Rattle.answer.specs.declared.RunBuffer.the-variants.{Input, Output}
 use Rattle.answer.specs.declared.Call.{Call as Name}
 use Rattle.answer.specs.declared.Registers.{Registers}
@@ -70,6 +70,7 @@ run-told (Short buffer) n = refl
 run-told Exit n = refl
 run-told (Effect place) n = refl
 run-told CacheBad n = refl
+run-told InUse n = refl
 
 -- a test that holds refuses with a fault
 real-fault : (xs : List (Bool × Fault)) → Real xs → (f : Fault) → judgement xs ≡ Refused f → f ≡ None → ⊥

@@ -8,7 +8,7 @@ use Rattle.answer.specs.declared.Place.{Place}
 use Rattle.answer.specs.declared.RunBuffer.{RunBuffer}
 use Rattle.answer.specs.declared.RunBuffer.the-variants.{Input, Output}
 use Rattle.answer.specs.declared.Fault.{Fault}
-use Rattle.answer.specs.declared.Fault.the-variants.{None, Store, Flag, Guest, Token, Capability, Vcpu, Length, Element, Room, Exists, Unregistered, Short, Exit, Effect, Cache}
+use Rattle.answer.specs.declared.Fault.the-variants.{None, Store, Flag, Guest, Token, Capability, Vcpu, Length, Element, Room, Exists, Unregistered, Short, Exit, Effect, Cache, InUse}
 use Rattle.answer.specs.declared.Call.{Call}
 use Rattle.answer.specs.declared.Call.the-variants.{FreshStore, GetCapabilities, SetCapabilities, CreateGuest, CreateVcpu, GetState, SetState, RunVcpu, DeleteGuest, GuestClock, Lookup, CacheWrite, CacheRead, CacheRun}
 use Rattle.answer.specs.declared.Shown.{Shown}
@@ -78,6 +78,7 @@ told c (Short buffer) v = three 12 (bufferNumber buffer) 0
 told c Exit v = three 13 0 0
 told c (Effect place) v = withPlace 14 (placeShown c place)
 told c Cache v = three 15 0 0
+told c InUse v = three 21 0 0
 
 -- 01, "The L1 cache": "Accepted: R3 is 0."
 abbrev pub accepted : Registers → Bool

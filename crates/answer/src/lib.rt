@@ -39,6 +39,7 @@ pub enum Fault {
     Exit,
     Effect(Place),
     Cache,
+    InUse,
 }
 
 // `value` is what a success tells; it is 0 where nothing is said, and in a refusal.
@@ -180,5 +181,6 @@ pub fn registers_of(c: Call, a: Answer) -> Registers
         Fault::Exit => three(13, 0, 0),
         Fault::Effect(place) => with_place(14, place_shown(c, place)),
         Fault::Cache => three(15, 0, 0),
+        Fault::InUse => three(21, 0, 0),
     }
 }

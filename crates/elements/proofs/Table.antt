@@ -2,7 +2,7 @@
 -- name into the rule at each listed ID; and from these what the table says of an element's size, position and number.
 -- Assumes nothing.
 use mathlib.Core.Path.{_≡_, refl, sym, ap, ap₂, _∙_, subst}
-use mathlib.Core.Logic.{_⊎_, inl, inr, ⊎-elim}
+use mathlib.Core.Logic.{_≢_, _⊎_, inl, inr, ⊎-elim}
 use mathlib.Core.Bool.{Bool, true, false, not, _&&_, _||_}
 use mathlib.Core.List.{List, [], _∷_}
 use Prim.Native.Nat.{ℕ, zero, suc, _+_, _-_, min, _≤_, _<_}
@@ -188,6 +188,12 @@ unfolding kindOf find table sourceOf position below
 position-end s id x e q st =
     subst (λ (s : Scope). position s id + x .size ≤ bytesOf s) q
     (leb→le _ _ (stored-rule (λ (i : ℕ) (y : Entry). leb (position (y .scope) i + y .size) (bytesOf (y .scope))) tt id x e st))
+
+-- the logical PVR stands first among a guest's values
+pub behind-pvr : (id : ℕ) (x : Entry) → kindOf id ≡ Listed x → x .scope ≡ Guest → isStored id ≡ true → id ≢ 0x0003 → 4 ≤ position Guest id
+unfolding kindOf find table sourceOf position below
+behind-pvr id x e q st n =
+    leb→le _ _ (rw (ne-eqb id 0x0003 n, ap (sameScope Guest) q) at (stored-rule (λ (i : ℕ) (y : Entry). (eqb i 0x0003 || not (sameScope Guest (y .scope))) || leb 4 (position Guest i)) tt id x e st))
 
 -- no gap: the next ID's position is past the value
 pub position-next : (s : Scope) (id : ℕ) (x : Entry) → kindOf id ≡ Listed x → x .scope ≡ s → isStored id ≡ true

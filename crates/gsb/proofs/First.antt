@@ -15,7 +15,7 @@ use Rattle.gsb.specs.declared.Verdict.the-variants.{Good, Faulty}
 use Rattle.gsb.specs.declared.Walked.the-variants.{Done, Stopped}
 use Rattle.gsb.specs.Walk.{countOf, offsetAt, judged, walkOn, walk, firstBad}
 use Rattle.gsb.specs.First.{Leads, FirstBadAt, AllGood}
-use Rattle.gsb.proofs.Judged.{good-element}
+use Rattle.gsb.proofs.Judged.{GoodElement, good-element}
 use Rattle.gsb.proofs.Walks.{walk-end, walk-good, walk-bad, after-good, after-bad, offset-start, offset-next, walk-start}
 
 -- the first bad element of n that follow one another from index i on, and what is wrong with it
@@ -137,3 +137,7 @@ first-walk k b = refl
 pub all-good : (k : Context) (b : List ℕ) → firstBad k b ≡ Done ↔ AllGood (judged k b) b
 unfolding firstBad
 all-good k b = accepted-exactly (judged k b) b (judged-leads k b)
+
+-- each element of an accepted buffer is good
+pub element-good : (k : Context) (b : List ℕ) → firstBad k b ≡ Done → (i : ℕ) → i < countOf b → GoodElement k b (offsetAt b i)
+element-good k b d i h = good-element k b (offsetAt b i) (offsetAt b (i + 1)) (all-good k b .0 d i h) .0

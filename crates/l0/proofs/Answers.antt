@@ -1,6 +1,6 @@
 -- The answers of the calls, in the form of their needs: each takes a call's refusals apart as far as the code came. Assumes nothing.
 use mathlib.Core.Path.{_≡_, refl, sym, ap, ap₂, _∙_}
-use mathlib.Core.Bool.{Bool, true, false, not, cond}
+use mathlib.Core.Bool.{Bool, true, false, not, _&&_, cond}
 use mathlib.Core.List.{List, []}
 use Prim.Native.Nat.{ℕ, _+_, _%_, _^_}
 use lib.Dec.{eqb}
@@ -10,17 +10,17 @@ use Rattle.octets.specs.Bytes.{be, put, zeros}
 use Rattle.octets.proofs.Bytes.{length-zeros, put-all}
 use Rattle.answer.specs.declared.Answer.{Answer}
 use Rattle.answer.specs.declared.Fault.{Fault}
-use Rattle.answer.specs.declared.Fault.the-variants.{Store, Guest, Capability}
+use Rattle.answer.specs.declared.Fault.the-variants.{Store, Guest, Capability, InUse}
 use Rattle.elements.specs.declared.Scope.the-variants.{Guest as GuestWide}
 use Rattle.elements.specs.Table.{position, below, table}
 use Rattle.store.specs.declared.Layout.{Layout}
 use Rattle.store.specs.Layout.{small, guestAt}
-use Rattle.store.specs.Header.{header, outside, offered, live}
+use Rattle.store.specs.Header.{header, outside, offered, capabilitiesOf, anyLive, live}
 use Rattle.store.specs.Store.{wellFormed, fresh, putCapabilities}
 use Rattle.admission.specs.declared.Admission.{Admission}
 use Rattle.admission.specs.declared.Admission.the-variants.{Admitted, Refused}
 use Rattle.admission.specs.Refusals.{Outcome, success, refusal, accept, refuse, decide, admission}
-use Rattle.l0.specs.Calls.{freshStore, getCapabilities, setCapabilities, offsetOf, roundedUp, guestClock}
+use Rattle.l0.specs.Calls.{freshStore, getCapabilities, inUse, setCapabilities, offsetOf, roundedUp, guestClock}
 use Rattle.admission.proofs.FirstTests.{refused, past, admitted}
 use Rattle.guests.proofs.Answers.{left}
 
@@ -28,6 +28,14 @@ use Rattle.guests.proofs.Answers.{left}
 tb-offset : position GuestWide 0x0004 ≡ 4
 unfolding position below table
 tb-offset = refl
+
+and-false : (b : Bool) → (b && false) ≡ false
+and-false true = refl
+and-false false = refl
+
+and-true : (b : Bool) → (b && true) ≡ b
+and-true true = refl
+and-true false = refl
 
 module _ (l : Layout) (e : l ≡ small) (s : List ℕ) (r : Answer) where
   -- ---- a fresh store
@@ -56,7 +64,7 @@ module _ (l : Layout) (e : l ≡ small) (s : List ℕ) (flags : ℕ) (a : Admiss
 
   module _ (bitmap : ℕ) where
     rest : Outcome
-    rest = cond (not (eqb (outside offered bitmap) 0)) (refuse s [] Capability) (accept 0 (putCapabilities s bitmap))
+    rest = cond (not (eqb (outside offered bitmap) 0)) (refuse s [] Capability) (cond (inUse l s bitmap) (refuse s [] InUse) (accept 0 (putCapabilities s bitmap)))
 
     pub set-refused : (f : Fault) → a ≡ Refused f → r ≡ refusal f → left r s ≡ setCapabilities small s flags bitmap
     unfolding setCapabilities decide rest
@@ -73,11 +81,26 @@ module _ (l : Layout) (e : l ≡ small) (s : List ℕ) (flags : ℕ) (a : Admiss
           let m : outside offered bitmap ≡ 0 → ⊥ = λ z. n (o ∙ z) in
           ap (λ (x : Answer). left x s) i ∙ sym (set-past ∙ simp (ne-eqb _ _ m))
 
-      pub set-stored : (t : List ℕ) → x ≡ 0 → t ≡ putCapabilities s bitmap → r ≡ success 0 → left r t ≡ setCapabilities small s flags bitmap
-      unfolding rest
-      set-stored t z k i =
-          let m : outside offered bitmap ≡ 0 = sym o ∙ z in
-          ap₂ left i k ∙ sym (set-past ∙ simp (eq-eqb _ _ m))
+      module _ (z : x ≡ 0) (y : Bool) (u : y ≡ inUse l s bitmap) where
+        set-offered : setCapabilities small s flags bitmap ≡ cond y (refuse s [] InUse) (accept 0 (putCapabilities s bitmap))
+        unfolding rest
+        set-offered =
+            set-past
+            ∙ ap₂ (λ (b c : Bool). cond (not b) (refuse s [] Capability) (cond c (refuse s [] InUse) (accept 0 (putCapabilities s bitmap)))) (eq-eqb _ _ (sym o ∙ z)) (sym u)
+
+        pub set-in-use : y ≡ true → r ≡ refusal InUse → left r s ≡ setCapabilities small s flags bitmap
+        set-in-use v i = ap (λ (x : Answer). left x s) i ∙ sym (set-offered ∙ ap (λ (b : Bool). cond b (refuse s [] InUse) (accept 0 (putCapabilities s bitmap))) v)
+
+        pub set-stored : (t : List ℕ) → y ≡ false → t ≡ putCapabilities s bitmap → r ≡ success 0 → left r t ≡ setCapabilities small s flags bitmap
+        set-stored t v k i = ap₂ left i k ∙ sym (set-offered ∙ ap (λ (b : Bool). cond b (refuse s [] InUse) (accept 0 (putCapabilities s bitmap))) v)
+
+-- whether a guest lives under another bitmap
+module _ (l : Layout) (s : List ℕ) (bitmap c : ℕ) (e : c ≡ capabilitiesOf (header l s)) where
+  pub use-same : bitmap ≡ c → false ≡ inUse l s bitmap
+  use-same h = sym (ap (λ (b : Bool). anyLive l (header l s) && not b) (eq-eqb _ _ (h ∙ e)) ∙ and-false (anyLive l (header l s)))
+
+  pub use-other : (x : Bool) → (bitmap ≡ c → ⊥) → x ≡ anyLive l (header l s) → x ≡ inUse l s bitmap
+  use-other x n h = h ∙ sym (ap (λ (b : Bool). anyLive l (header l s) && not b) (ne-eqb _ _ (λ z. n (z ∙ sym e))) ∙ and-true (anyLive l (header l s)))
 
 -- ---- the clock
 module _ (l : Layout) (e : l ≡ small) (s : List ℕ) (guest timebase : ℕ) (t : Bool) (q : t ≡ wellFormed l s) (r : Answer) where

@@ -1,16 +1,16 @@
 -- 01, "Answers" and "The store": each call's refusals in the order of "When several apply", then its effect.
 use Prim.Native.Nat.{ℕ, _+_, _-_, _*_, _/_, _%_, _^_}
-use mathlib.Core.Bool.{not}
+use mathlib.Core.Bool.{Bool, not, _&&_}
 use mathlib.Core.List.{List, [], _∷_}
 use lib.Dec.{eqb}
 use lib.ListN.{length}
 use Rattle.octets.specs.Bytes.{be}
-use Rattle.answer.specs.declared.Fault.the-variants.{Store, Capability}
+use Rattle.answer.specs.declared.Fault.the-variants.{Store, Capability, InUse}
 use Rattle.elements.specs.declared.Scope.the-variants.{Guest as GuestWide}
 use Rattle.elements.specs.Table.{position}
 use Rattle.store.specs.declared.Layout.{Layout}
 use Rattle.store.specs.Layout.{guestAt}
-use Rattle.store.specs.Header.{outside, offered}
+use Rattle.store.specs.Header.{header, outside, offered, capabilitiesOf, anyLive}
 use Rattle.store.specs.Store.{fresh, putCapabilities}
 use Rattle.state.specs.State.{getState, setState}
 use Rattle.run.specs.Run.{runVcpu}
@@ -25,11 +25,15 @@ freshStore l s = decide s [] ((not (eqb (length s) (l .size)), Store) ∷ []) (a
 unfoldable pub getCapabilities : Layout → List ℕ → ℕ → Outcome
 getCapabilities l s flags = decide s [] (malformed l s ∷ unsupported 0 flags ∷ []) (accept offered s)
 
--- H_GUEST_SET_CAPABILITIES: "others 1, 2, 3", where 3 is "bit not offered"; "Set stores the bitmap."
+-- L12: "Set capabilities is now refused while any guest lives, unless the bitmap equals the agreed one."
+abbrev pub inUse : Layout → List ℕ → ℕ → Bool
+inUse l s bitmap = anyLive l (header l s) && not (eqb bitmap (capabilitiesOf (header l s)))
+
+-- H_GUEST_SET_CAPABILITIES: "others 1, 2, 3", where 3 is "bit not offered", and L12's "21 after 3"; "Set stores the bitmap."
 unfoldable pub setCapabilities : Layout → List ℕ → ℕ → ℕ → Outcome
 setCapabilities l s flags bitmap =
     decide s []
-    (malformed l s ∷ unsupported 0 flags ∷ (not (eqb (outside offered bitmap) 0), Capability) ∷ [])
+    (malformed l s ∷ unsupported 0 flags ∷ (not (eqb (outside offered bitmap) 0), Capability) ∷ (inUse l s bitmap, InUse) ∷ [])
     (accept 0 (putCapabilities s bitmap))
 
 -- "The guest clock, given an L1 timebase, is the sum of it and 0x0004, and the sum wraps at 2^64. It answers 1, then 3."

@@ -7,13 +7,17 @@ use answer::Fault;
 use answer::refusal;
 use answer::success;
 use octets::clear;
+use store::Layout;
+use store::any_live;
+use store::capabilities_of;
 use store::put_capabilities;
 use store::small_layout;
 ghost use mathlib.Core.Path.{_≡_};
 ghost use mathlib.Core.List.{[]};
-ghost use Rattle.store.specs.Layout.{small};
+ghost use lib.ListN.{length};
+ghost use Rattle.store.specs.Layout.{Sound, small};
 ghost use Rattle.admission.specs.Refusals.{Outcome};
-ghost use Rattle.l0.specs.Calls.{freshStore, getCapabilities, setCapabilities};
+ghost use Rattle.l0.specs.Calls.{freshStore, getCapabilities, setCapabilities, inUse};
 
 // Bits 1 and 2: POWER9, POWER10.
 const OFFERED: u64 = 0x6000_0000_0000_0000;
@@ -40,6 +44,17 @@ pub fn get_capabilities(store: &[u8], flags: u64) -> Answer
     }
 }
 
+// A guest lives under what is agreed, and something else is asked for.
+fn in_use(store: &[u8], l: Layout, bitmap: u64) -> bool
+    requires { ⌜ Sound l × (length (now store) ≡ l .size) ⌝ }
+    ensures { λ r. ⌜ r ≡ inUse l (now (store .entry)) bitmap ⌝ }
+{
+    if bitmap == capabilities_of(store, l) {
+        return false;
+    }
+    any_live(store, l)
+}
+
 // H_GUEST_SET_CAPABILITIES.
 pub fn set_capabilities(store: &mut [u8], flags: u64, bitmap: u64) -> Answer
     ensures { λ r. ⌜ _≡_ {A = Outcome} (record { answer = r; store = now (store .exit); buffer = [] }) (setCapabilities small (now (store .entry)) flags bitmap) ⌝ }
@@ -51,6 +66,9 @@ pub fn set_capabilities(store: &mut [u8], flags: u64, bitmap: u64) -> Answer
     }
     if other_bits(OFFERED, bitmap) != 0 {
         return refusal(Fault::Capability);
+    }
+    if in_use(store, l, bitmap) {
+        return refusal(Fault::InUse);
     }
     put_capabilities(store, l, bitmap);
     success(0)

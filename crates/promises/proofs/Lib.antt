@@ -8,3 +8,4 @@ pub mod Lookups
 pub mod Used
 pub mod Edges
 pub mod Apart
+pub mod Pvr

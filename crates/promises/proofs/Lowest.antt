@@ -225,7 +225,7 @@ module _ (l : Layout) (so : Sound l) (s : List ℕ) where
         at lower (yes q) = ap (live l (putLive (header l t) (n + 1) 0)) q ∙ live-here l so (header l t) whole (n + 1) (omega arith) (omega arith) 0
         at lower (no q) = live-else l so (header l t) whole (n + 1) (omega arith) (omega arith) 0 g q ∙ lower (omega arith)
 
-    all-dead : (g : ℕ) → live l (header l (withoutGuests l s)) g ≡ false
+    pub all-dead : (g : ℕ) → live l (header l (withoutGuests l s)) g ≡ false
     unfolding withoutGuests
     all-dead g = go (live l (header l (withoutGuests l s)) g) refl
       where

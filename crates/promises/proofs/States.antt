@@ -193,7 +193,7 @@ slots-apart l i j n = go (decLt i j)
     go (yes h) = left (omega arith)
     go (no h) = right (omega arith)
 
-guests-apart : (l : Layout) (g k : ℕ) → 1 ≤ g → 1 ≤ k → g ≢ k → Clear (guestAt l g) guestBytes (guestAt l k) guestBytes
+pub guests-apart : (l : Layout) (g k : ℕ) → 1 ≤ g → 1 ≤ k → g ≢ k → Clear (guestAt l g) guestBytes (guestAt l k) guestBytes
 guests-apart l g k a b n = go (decLt g k)
   where
     go : Dec (g < k) → Clear (guestAt l g) guestBytes (guestAt l k) guestBytes
@@ -234,7 +234,7 @@ module _ (l : Layout) (s : List ℕ) (flags guest vcpu : ℕ) (b : List ℕ) whe
         (right (omega (arith, so .guests-fit, r .0, r .1))))
 
   module _ (wide : hasBit0 flags ≡ true) where
-    wide-base : baseOf l s (hasBit0 flags) guest vcpu ≡ guestAt l guest
+    pub wide-base : baseOf l s (hasBit0 flags) guest vcpu ≡ guestAt l guest
     unfolding baseOf
     wide-base = simp wide
 

@@ -2,3 +2,4 @@ pub mod History
 pub mod Promised
 pub mod Edges
 pub mod Apart
+pub mod Agreed

@@ -120,7 +120,7 @@ module _ (l : Layout) (so : Sound l) (h : List ℕ) where
   unfolding word
   caps-word c a = caps-bits c (wordAt l a) (l .width) (omega (arith, so .head))
 
-  caps-live : (c g : ℕ) → live l (putCapabilities h c) g ≡ live l h g
+  pub caps-live : (c g : ℕ) → live l (putCapabilities h c) g ≡ live l h g
   unfolding live
   caps-live c g = go (leb 1 g) refl
     where

@@ -8,7 +8,7 @@ use native.Mathlib.Omega.{arith}
 use borrow.Author.Tests.{eq-eqb, ne-eqb, not-true, not-false}
 use Rattle.store.specs.declared.Layout.{Layout}
 use Rattle.store.specs.Search.{every, first, tally}
-use Rattle.store.specs.Header.{word, live, holds, wordsGood, slotHolding, isDead, freeGuest}
+use Rattle.store.specs.Header.{word, live, holds, wordsGood, slotHolding, isDead, freeGuest, anyLive}
 use Rattle.store.specs.Private.{timesOf, slotCounted}
 use Rattle.store.proofs.Counted.{words-counted}
 
@@ -109,3 +109,21 @@ module _ (l : Layout) (s : List ℕ) where
 
     pub free-end : l .guests < g → g ≡ f
     free-end k = sym (h ∙ first-end (isDead l s) (l .guests + 1) g (omega arith))
+
+-- ---- whether a guest lives
+module _ (l : Layout) (s : List ℕ) where
+  pub alive-start : anyLive l s ≡ not (every (isDead l s) (l .guests + 1 - 1) 1)
+  unfolding anyLive
+  alive-start = let e : l .guests ≡ l .guests + 1 - 1 = omega arith in ap (λ (n : ℕ). not (every (isDead l s) n 1)) e
+
+  module _ (f : Bool) (g : ℕ) (h : f ≡ not (every (isDead l s) (l .guests + 1 - g) g)) where
+    pub alive-hit : (x : Bool) → g ≤ l .guests → x ≡ live l s g → x ≡ true → true ≡ f
+    unfolding isDead
+    alive-hit x k e q = sym (h ∙ ap not (every-out (isDead l s) (l .guests + 1) g (omega arith) (ap not (sym e ∙ q))))
+
+    pub alive-miss : (x : Bool) → g ≤ l .guests → x ≡ live l s g → x ≡ false → f ≡ not (every (isDead l s) (l .guests + 1 - (g + 1)) (g + 1))
+    unfolding isDead
+    alive-miss x k e q = h ∙ ap not (every-past (isDead l s) (l .guests + 1) g (omega arith) (ap not (sym e ∙ q)))
+
+    pub alive-end : l .guests < g → false ≡ f
+    alive-end k = sym (h ∙ ap not (every-end (isDead l s) (l .guests + 1) g (omega arith)))

@@ -88,6 +88,10 @@ isDead l h g = not (live l h g)
 unfoldable pub freeGuest : Layout → List ℕ → ℕ
 freeGuest l h = first (isDead l h) (l .guests) 1
 
+-- a guest lives
+unfoldable pub anyLive : Layout → List ℕ → Bool
+anyLive l h = not (every (isDead l h) (l .guests) 1)
+
 -- how many slots are used: "unused words zero"
 unfoldable pub usedSlots : Layout → List ℕ → ℕ
 usedSlots l h = tally (lacks l h 0) (l .slots)

@@ -13,6 +13,7 @@ pub use header::capabilities_of;
 pub use header::is_live;
 pub use removal::without_guest;
 pub use removal::without_guests;
+pub use slots::any_live;
 pub use slots::free_guest;
 pub use slots::free_slot;
 pub use slots::slot_of;

@@ -8,7 +8,7 @@ ghost use Prim.Native.Nat.{_+_, _≤_, _<_, _^_};
 ghost use lib.ListN.{length};
 ghost use Rattle.octets.specs.Private.{swap2};
 ghost use Rattle.store.specs.Layout.{Sound};
-ghost use Rattle.store.specs.Header.{header, holds, slotHolding, slotOf, freeSlot, freeGuest};
+ghost use Rattle.store.specs.Header.{anyLive, header, holds, slotHolding, slotOf, freeSlot, freeGuest};
 
 // p is w swapped: each word is then compared as it lies in the store.
 fn holds_word(s: &[u8], l: Layout, i: usize, w: usize, p: u16) -> bool
@@ -66,4 +66,18 @@ pub fn free_guest(s: &[u8], l: Layout) -> usize
         g += 1;
     }
     g
+}
+
+pub fn any_live(s: &[u8], l: Layout) -> bool
+    requires { ⌜ Sound l × (length (now s) ≡ l .size) ⌝ }
+    ensures { λ r. ⌜ r ≡ anyLive l (header l (now (s .entry))) ⌝ }
+{
+    let mut g = 1;
+    while g <= l.guests {
+        if is_live(s, l, g) {
+            return true;
+        }
+        g += 1;
+    }
+    false
 }

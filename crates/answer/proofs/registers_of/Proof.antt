@@ -163,6 +163,15 @@ returns-15 c = search (needs, row-effect)
 returns-16 : tie.Need-returns-16
 returns-16 c = search (needs, row)
 
+enum-told-12 : tie.Need-enum-told-12
+enum-told-12 c = search needs
+
+three-requires-15 : tie.Need-three-requires-15
+three-requires-15 c κs = search needs
+
+returns-17 : tie.Need-returns-17
+returns-17 c = search (needs, row)
+
 pub registers-of-spec : {M : Type 1} → statement M
 registers-of-spec =
     tie.close
@@ -204,6 +213,8 @@ registers-of-spec =
     with-place-requires-2
     enum-told-11
     three-requires-14
+    enum-told-12
+    three-requires-15
     returns
     returns-2
     returns-3
@@ -219,4 +230,5 @@ registers-of-spec =
     returns-13
     returns-14
     returns-15
-    returns-16)
+    returns-16
+    returns-17)

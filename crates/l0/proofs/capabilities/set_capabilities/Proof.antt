@@ -1,7 +1,7 @@
 -- By how far the tests came: the laws `set-..` of Answers.
 use Rattle.store.proofs.Small.{small-sound}
 use Rattle.admission.proofs.FirstTests.{past-long}
-use Rattle.l0.proofs.Answers.{set-refused, set-other, set-stored}
+use Rattle.l0.proofs.Answers.{set-refused, set-other, set-in-use, set-stored}
 use borrow.Author.Needs.{needs}
 use Rattle.l0.proofs.capabilities.set_capabilities.Statement.{statement}
 use Rattle.l0.proofs.capabilities.set_capabilities.Tie as tie
@@ -39,17 +39,29 @@ same-length-2 c = search needs
 returns-2 : tie.Need-returns-2
 returns-2 c = search (needs, set-other)
 
+in-use-requires : tie.Need-in-use-requires
+in-use-requires c κs = (search (needs, small-sound), search (needs, past-long))
+
+refusal-requires-3 : tie.Need-refusal-requires-3
+refusal-requires-3 c κs = search needs
+
+same-length-3 : tie.Need-same-length-3
+same-length-3 c = search needs
+
+returns-3 : tie.Need-returns-3
+returns-3 c = search (needs, set-in-use)
+
 put-capabilities-requires : tie.Need-put-capabilities-requires
 put-capabilities-requires c κs = (search (needs, small-sound), search (needs, past-long))
 
 success-requires : tie.Need-success-requires
 success-requires c κs = search needs
 
-same-length-3 : tie.Need-same-length-3
-same-length-3 c = search needs
+same-length-4 : tie.Need-same-length-4
+same-length-4 c = search needs
 
-returns-3 : tie.Need-returns-3
-returns-3 c = search (needs, set-stored)
+returns-4 : tie.Need-returns-4
+returns-4 c = search (needs, set-stored)
 
 pub set-capabilities-spec : {M : Type 1} → statement M
 set-capabilities-spec =
@@ -66,7 +78,11 @@ set-capabilities-spec =
     refusal-requires-2
     same-length-2
     returns-2
+    in-use-requires
+    refusal-requires-3
+    same-length-3
+    returns-3
     put-capabilities-requires
     success-requires
-    same-length-3
-    returns-3)
+    same-length-4
+    returns-4)
