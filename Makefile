@@ -22,13 +22,15 @@ scoring = $(addprefix bench/,account.c cover.c csv.c figures.c judge.c order.c p
     text.c vendor.c watch.c window.c)
 
 .PHONY: all bench run score speed counts figures listing test install uninstall clean tools help
-.PHONY: browser compiler kit
+.PHONY: browser compiler kit vendors
 .DELETE_ON_ERROR:
 .PRECIOUS: $(bench)/vendor-%.c
 
 all: $(archive) ## prove the library and build target/staticlib/libadderknot.a
 
-bench: $(programs) $(vendors) ## build the C programs, and vendors' libraries to try the score on
+bench: $(programs) vendors ## build the C programs, and vendors' libraries to try the score on
+
+vendors: $(vendors)
 
 run: $(bench)/compare ## compare the library with the model, on two million calls
 	$(bench)/compare $(ARGS)
