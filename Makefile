@@ -134,11 +134,12 @@ $(bench)/%: bench/%.c $(headers) $(archive)
 	mkdir -p $(bench)
 	$(CC) $(CFLAGS) -Iinclude $(filter %.c,$^) $(archive) $(LDLIBS) -o $@
 
-$(bench)/calls $(bench)/compare $(bench)/count $(bench)/speed: bench/model.c
-$(bench)/count $(bench)/speed: bench/cases.c
+$(bench)/calls $(bench)/compare $(bench)/count $(bench)/shallow $(bench)/speed: bench/model.c
+$(bench)/count $(bench)/shallow $(bench)/speed: bench/cases.c
 $(bench)/compare $(bench)/score $(bench)/shallow: $(night)
 # A first call through the dynamic linker would take its stack.
 $(bench)/shallow: LDLIBS = -Wl,-z,now
+$(bench)/shallow: bench/deep.c bench/depth.c
 $(bench)/score: $(scoring)
 
 # The vendor's side of the score. Adderknot's library is not in it.

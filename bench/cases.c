@@ -11,10 +11,6 @@
 /* Where the values begin in a store. */
 enum { VALUES = 42 };
 
-/* The store is full and the vCPU, the only one of its guest, is in the last slot: then finding it, and testing the
-   store, take longest. */
-enum { GUEST = ADK_GUESTS, VCPU = ADK_VCPU_MAX };
-
 /* ---- The two sides ---- */
 
 /* A buffer under construction, and what is lent of it. */
@@ -23,34 +19,34 @@ struct buffer {
     size_t len;
 };
 
-struct side {
+struct party {
     struct l0 on;
     uint8_t store[ADK_STORE_SIZE];
     struct buffer buffer, effect; /* buffer is a run's input */
     uint8_t output[ADK_BUFFER_MAX];
 };
 
-struct side library = { .on = L0_LIBRARY }, model = { .on = L0_MODEL };
+struct party library = { .on = L0_LIBRARY }, model = { .on = L0_MODEL };
 
-static adk_found call_get(struct side *s)
+static adk_found call_get(struct party *s)
 {
     return plain(s->on.get_state(s->store, sizeof s->store, 0, GUEST, VCPU, s->buffer.bytes, s->buffer.len));
 }
 
-static adk_found call_set(struct side *s)
+static adk_found call_set(struct party *s)
 {
     return plain(s->on.set_state(s->store, sizeof s->store, 0, GUEST, VCPU, s->buffer.bytes, s->buffer.len));
 }
 
 /* Both run buffers are registered and lent with the greatest size; the input's count says where it ends. */
-static adk_found call_run(struct side *s)
+static adk_found call_run(struct party *s)
 {
     return plain(s->on.run_vcpu(s->store, sizeof s->store, 0, GUEST, VCPU, s->buffer.bytes, sizeof s->buffer.bytes,
                              s->output, sizeof s->output, s->effect.bytes, s->effect.len, ADK_EXIT_HCALL));
 }
 
 /* Three calls. The guest comes back under its number, and its vCPU in the slot that was freed. */
-static adk_found call_anew(struct side *s)
+static adk_found call_anew(struct party *s)
 {
     adk_answer gone = s->on.delete_guest(s->store, sizeof s->store, 0, GUEST);
     adk_answer guest = s->on.create_guest(s->store, sizeof s->store, 0, ADK_TOKEN);
@@ -58,7 +54,7 @@ static adk_found call_anew(struct side *s)
     return (adk_found){ gone.r3 | guest.r3 | vcpu.r3, guest.r4, 0, 0, 0 };
 }
 
-static adk_found call_lookup(struct side *s)
+static adk_found call_lookup(struct party *s)
 {
     return s->on.lookup(s->buffer.bytes, s->buffer.len, ADK_GSID_VSR(63));
 }
@@ -204,7 +200,7 @@ bool fill_store(uint8_t *store)
     return refused == 0;
 }
 
-static void prepare_side(struct side *s, const uint8_t *store, const struct work *w)
+static void prepare_side(struct party *s, const uint8_t *store, const struct work *w)
 {
     memcpy(s->store, store, sizeof s->store);
     memset(s->output, 0xEE, sizeof s->output);

@@ -10,17 +10,21 @@
 #include <stdbool.h>
 
 struct buffer;
-struct side; /* an L0 with its store and its buffers */
+struct party; /* an L0 with its store and its buffers */
 
 struct work {
     const char *name;
-    adk_found (*call)(struct side *s);
+    adk_found (*call)(struct party *s);
     void (*build)(struct buffer *b);
     unsigned count, effect; /* how many elements the buffer has, and the effect */
     uint64_t r3, r4;
 };
 
-extern struct side library, model;
+/* In the store that is filled, the vCPU in the last slot, the only one of its guest: finding it, and testing the store,
+   take longest. */
+enum { GUEST = ADK_GUESTS, VCPU = ADK_VCPU_MAX };
+
+extern struct party library, model;
 extern const struct work WORK[];
 extern const size_t WORKS;
 

@@ -38,7 +38,7 @@ static int list(void)
     return 0;
 }
 
-static int repeat(struct side *s, const struct work *w, size_t calls)
+static int repeat(struct party *s, const struct work *w, size_t calls)
 {
     static uint8_t store[ADK_STORE_SIZE];
     if (!fill_store(store)) {
@@ -62,7 +62,7 @@ int main(int argc, char **argv)
         return list();
     if (argc != 4)
         return usage();
-    struct side *s = strcmp(argv[1], "library") == 0 ? &library : strcmp(argv[1], "model") == 0 ? &model : NULL;
+    struct party *s = strcmp(argv[1], "library") == 0 ? &library : strcmp(argv[1], "model") == 0 ? &model : NULL;
     size_t which = number(argv[2], WORKS), calls = number(argv[3], CALLS_MAX);
     if (s == NULL || which == 0 || calls == 0)
         return usage();

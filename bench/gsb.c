@@ -352,17 +352,29 @@ static void build_mixed(struct build *g, unsigned n, unsigned odd)
     put_count(g);
 }
 
-/* All elements that the call takes, the first one anywhere. */
-static void build_all(struct build *g)
+/* All elements that the call takes, or of each row the first and the last; the first row is any. */
+static void build_rows(struct build *g, bool all)
 {
     unsigned first = below(COUNT(ROWS));
     g->len = 4;
     for (size_t i = 0; i < COUNT(ROWS); i++) {
         const struct row *row = &ROWS[(first + i) % COUNT(ROWS)];
-        for (unsigned id = row->first; takes_now(g, row) && id <= row->last; id++)
+        unsigned step = all || row->first == row->last ? 1 : row->last - row->first;
+        for (unsigned id = row->first; takes_now(g, row) && id <= row->last; id += step)
             add_good(g, id);
     }
     put_count(g);
+}
+
+static void build_all(struct build *g)
+{
+    build_rows(g, true);
+}
+
+void build_ends(struct build *g)
+{
+    build_rows(g, false);
+    g->high = g->len;
 }
 
 /* The greatest length, with as many elements as there is room for. */

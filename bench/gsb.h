@@ -93,12 +93,13 @@ void put_count(struct build *g);
 unsigned taken_id(const struct build *g);
 
 /* A buffer of the IDs in g, for a lookup; one for get or set state; mostly good elements, for a run, so that often
-   enough its input and its effect are; good elements to the greatest length; run buffers, to register them; NOPs and
-   nothing else. */
+   enough its input and its effect are; good elements to the greatest length; the first and the last of each row that
+   the call takes; run buffers, to register them; NOPs and nothing else. */
 void build_buffer(struct build *g);
 void build_state(struct build *g);
 void build_run(struct build *g);
 void build_full(struct build *g);
+void build_ends(struct build *g);
 void build_registration(struct build *g);
 void build_nops(struct build *g);
 

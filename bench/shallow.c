@@ -3,99 +3,50 @@
  * compares each with the same call on an ordinary stack.
  *
  *     make target/bench/shallow
- *     shallow [--calls N]      a night of calls, 200,000 if not told, and how deep each entry was seen to go
+ *     shallow [--calls N]      the deepest cases of each entry, and a night of calls, 200,000 if not told
  *     shallow --memset         how deep the C library's memset goes, its return address not counted
  *
- * The stack is painted before each call, so that what was written tells how deep it went. What a caller pushes as
- * arguments lies above the 512 bytes: it is the caller's. Lines 'passed shallow ..' or 'failed shallow ..' say what was
- * established. A call that goes deeper ends the program by a signal; that it does is tried first.
+ * The deepest cases (deep.h) are made twice: with the longest buffers; and with shorter ones step by step, so that what
+ * is reserved and never written counts (depth.h). Each entry must be seen to go as deep as bench/stack.sh computes from
+ * its machine code. So it is run in the repository's folder. Lines 'passed shallow ..' or 'failed shallow ..' say what
+ * was established. A call that goes deeper than the stack ends the program by a signal; that it does is tried first.
  */
 #define _GNU_SOURCE
 #include "chance.h"
-#include "night.h"
+#include "deep.h"
+#include "depth.h"
 
 #include <inttypes.h>
 #include <stdio.h>
 #include <stdlib.h>
 #include <string.h>
-#include <sys/mman.h>
 #include <sys/wait.h>
 #include <unistd.h>
 
-/* The words of a call: where its answer goes, then the arguments. Six travel in registers, the others on the stack. */
-enum { DEPTH = 512, ARGUMENTS = 14, PUSHED = 8 * (ARGUMENTS - 6), PAINT = 0xA5 };
-
-static uint8_t *shallow_stack; /* its lowest byte */
-
-/* Calls a function on the stack whose arguments end at top. */
-__attribute__((naked)) static void enter(void (*function)(void), const uint64_t *words, void *top)
-{
-    (void)function;
-    (void)words;
-    (void)top;
-    __asm__("push %rbp\n\t"
-            "mov %rsp, %rbp\n\t"
-            "mov %rdi, %rax\n\t"
-            "mov %rsi, %r10\n\t"
-            "mov %rdx, %rsp\n\t"
-            "pushq 104(%r10)\n\t"
-            "pushq 96(%r10)\n\t"
-            "pushq 88(%r10)\n\t"
-            "pushq 80(%r10)\n\t"
-            "pushq 72(%r10)\n\t"
-            "pushq 64(%r10)\n\t"
-            "pushq 56(%r10)\n\t"
-            "pushq 48(%r10)\n\t"
-            "mov (%r10), %rdi\n\t"
-            "mov 8(%r10), %rsi\n\t"
-            "mov 16(%r10), %rdx\n\t"
-            "mov 24(%r10), %rcx\n\t"
-            "mov 32(%r10), %r8\n\t"
-            "mov 40(%r10), %r9\n\t"
-            "call *%rax\n\t"
-            "mov %rbp, %rsp\n\t"
-            "pop %rbp\n\t"
-            "ret");
-}
-
-static bool make_stack(void)
-{
-    size_t page = (size_t)sysconf(_SC_PAGESIZE);
-    uint8_t *p = mmap(NULL, 2 * page, PROT_READ | PROT_WRITE, MAP_PRIVATE | MAP_ANONYMOUS, -1, 0);
-    if (p == MAP_FAILED || mprotect(p, page, PROT_NONE) != 0)
-        return false;
-    shallow_stack = p + page;
-    return true;
-}
-
-/* Makes the call, and returns how deep it went: return address and all below it. */
-static unsigned call_shallow(void (*function)(void), const uint64_t *words)
-{
-    unsigned clean = 0;
-    memset(shallow_stack, PAINT, DEPTH);
-    enter(function, words, shallow_stack + DEPTH + PUSHED);
-    while (clean < DEPTH && shallow_stack[clean] == PAINT)
-        clean++;
-    return DEPTH - clean;
-}
-
 /* ---- The entries on the shallow stack ---- */
 
-static struct {
+/* What was seen of each entry; those without a name are not used yet. */
+static struct seen {
     const char *name;
-    unsigned deepest;
-    uint64_t calls;
+    unsigned deepest, computed, accepted, refused, wrong;
 } seen[16];
+
+static struct seen *last_seen; /* the entry that was called last */
+
+static struct seen *seen_of(const char *name)
+{
+    struct seen *s = seen;
+    while (s->name != NULL && strcmp(s->name, name) != 0)
+        s++;
+    return s;
+}
 
 static void note(const char *name, unsigned depth)
 {
-    size_t i = 0;
-    while (seen[i].name != NULL && strcmp(seen[i].name, name) != 0)
-        i++;
-    seen[i].name = name;
-    seen[i].calls++;
-    if (depth > seen[i].deepest)
-        seen[i].deepest = depth;
+    last_seen = seen_of(name);
+    last_seen->name = name;
+    if (depth > last_seen->deepest)
+        last_seen->deepest = depth;
 }
 
 #define WORD(x) ((uint64_t)(x))
@@ -183,8 +134,27 @@ static bool too_deep_is_met(void)
     return child > 0 && waitpid(child, &status, 0) == child && WIFSIGNALED(status);
 }
 
-/* One call of a night on both stacks. What the ordinary one left is what the next call starts from. */
-static bool call_agrees(const struct call *c)
+/* Reserves 200 bytes and writes none. */
+__attribute__((naked)) static void reserve(void)
+{
+    __asm__("sub $200, %rsp\n\t"
+            "add $200, %rsp\n\t"
+            "ret");
+}
+
+static bool reserved_is_seen(void)
+{
+    const uint64_t words[ARGUMENTS] = { 0 };
+    unsigned painted = call_shallow(reserve, words);
+    step_calls(true);
+    unsigned stepped = call_shallow(reserve, words);
+    step_calls(false);
+    return painted == 8 && stepped == 208;
+}
+
+/* One call on both stacks; answer is that on the shallow one. What the ordinary one left is what the next call of a
+   night starts from. */
+static bool call_agrees(const struct call *c, uint64_t *answer)
 {
     adk_found a = c->kind->make(&ordinary, c, memory[LIBRARY]);
     adk_found b = c->kind->make(&shallow, c, memory[OTHER]);
@@ -196,15 +166,53 @@ static bool call_agrees(const struct call *c)
         good &= same_bytes(p, LIBRARY, OTHER, n) && guards_intact(p, OTHER, n);
         memcpy(memory[BEFORE][p], memory[LIBRARY][p], n);
     }
+    *answer = b.r3;
     return good;
+}
+
+static unsigned answered[KIND_COUNT]; /* the answers that each call gave, as bits */
+
+static void try_deep(const struct call *c, uint64_t answer, const char *what)
+{
+    uint64_t given;
+    bool good = call_agrees(c, &given) && given == answer;
+    answered[c->kind - KINDS] |= A(given);
+    last_seen->accepted += given == ADK_OK;
+    last_seen->refused += given != ADK_OK;
+    last_seen->wrong += !good;
+    if (!good)
+        printf("  %s, %s: answer %" PRIu64 ", not %" PRIu64 ", or other bytes\n", c->kind->name, what, given, answer);
+}
+
+/* Whether the deepest cases could be made, and gave each answer that there is. */
+static bool deepest_cases(bool longest)
+{
+    bool all = each_case(longest, try_deep);
+    for (size_t k = 0; k < KIND_COUNT; k++) {
+        if (answered[k] != KINDS[k].answers)
+            printf("  %s gave the answers 0x%X, not 0x%X\n", KINDS[k].name, answered[k], KINDS[k].answers);
+        all &= answered[k] == KINDS[k].answers;
+        answered[k] = 0;
+    }
+    return all;
+}
+
+static bool stepped_cases(void)
+{
+    step_calls(true);
+    bool all = deepest_cases(false);
+    step_calls(false);
+    return all;
 }
 
 static bool night_agrees(uint64_t calls)
 {
+    seed_chance(SEED);
     begin_night((struct manner){ .opaque = false });
     for (uint64_t i = 1; i <= calls; i++) {
         struct call c = next_call(i);
-        if (!call_agrees(&c)) {
+        uint64_t answer;
+        if (!call_agrees(&c, &answer)) {
             printf("  call %" PRIu64 ", %s\n", i, c.kind->name);
             return false;
         }
@@ -226,6 +234,39 @@ static unsigned memset_depth(void)
     return deepest - 8;
 }
 
+/* What bench/stack.sh says of each entry: lines of bytes and the chain of calls. */
+static void read_computed(void)
+{
+    char command[128], line[256], name[64];
+    unsigned bytes;
+    snprintf(command, sizeof command, "bench/stack.sh target/staticlib/libadderknot.a %d memset=%u", DEPTH,
+             memset_depth());
+    FILE *said = popen(command, "r");
+    while (said != NULL && fgets(line, sizeof line, said) != NULL)
+        if (sscanf(line, " %u adk_%63s", &bytes, name) == 2)
+            seen_of(name)->computed = bytes;
+    if (said != NULL)
+        pclose(said);
+}
+
+/* What no call reaches of what is computed. transfer::apply copies as many bytes as the buffer says. For sizes that no
+   element has, which no accepted buffer holds, its code has a loop that keeps one word more in the red zone. */
+static unsigned out_of_reach(const char *name)
+{
+    return strcmp(name, "set_state") == 0 || strcmp(name, "run_vcpu") == 0 ? 8 : 0;
+}
+
+/* Whether an entry was accepted and refused as it must be, and seen to go as deep as it can. */
+static void tell_entry(const struct seen *s)
+{
+    char what[160];
+    bool deep = s->deepest <= s->computed && s->deepest + out_of_reach(s->name) >= s->computed;
+    bool good = s->wrong == 0 && s->accepted > 0 && s->refused > 0 && deep;
+    snprintf(what, sizeof what, "adk_%s: %u cases accepted and %u refused as on an ordinary stack, %u of %u bytes seen",
+             s->name, s->accepted, s->refused, s->deepest, s->computed);
+    tell(good, what);
+}
+
 int main(int argc, char **argv)
 {
     uint64_t calls = argc == 3 && strcmp(argv[1], "--calls") == 0 ? strtoull(argv[2], NULL, 10) : 200000;
@@ -240,9 +281,13 @@ int main(int argc, char **argv)
     seed_chance(SEED);
     make_memory();
     tell(too_deep_is_met(), "a function of more than 512 bytes meets the page behind the stack");
-    tell(night_agrees(calls), "a night of calls, on 512 bytes of stack");
+    tell(reserved_is_seen(), "what a function reserves and does not write is seen step by step");
+    tell(deepest_cases(true), "every answer of every call, on a full store with the longest buffers");
+    tell(stepped_cases(), "every answer of every call, step by step");
+    tell(night_agrees(calls), "a night of calls");
+    read_computed();
     for (size_t i = 0; seen[i].name != NULL; i++)
-        printf("%6u  adk_%s, %" PRIu64 " calls\n", seen[i].deepest, seen[i].name, seen[i].calls);
+        tell_entry(&seen[i]);
     free_memory();
     return failures != 0;
 }

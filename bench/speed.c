@@ -30,7 +30,7 @@ static double now(void)
 }
 
 /* The time of one call, from so many. */
-static double time_call(struct side *s, const struct work *w, unsigned calls)
+static double time_call(struct party *s, const struct work *w, unsigned calls)
 {
     double start = now();
     for (unsigned i = 0; i < calls; i++)

@@ -39,29 +39,8 @@ function reaches(n) {
         frame[f] = n
 }
 
-# Notes a call or jump once the line after it has shown whether a relocation names its target.
-function settle(    name) {
-    if (branch == "")
-        return
-    name = target
-    if (branch == "jump" && (name == "" || name == here)) {
-        if (name == here && !(at_target in known))
-            known[at_target] = depth
-        if (name == "")
-            guess = depth
-    } else if (name == "") {
-        indirect[f]++
-    } else {
-        calls++
-        from[calls] = f
-        to[calls] = name
-        site[calls] = depth + (branch == "call" ? 8 : 0)
-    }
-    branch = ""
-}
-
 function begin_function(name) {
-    settle()
+    follow()
     here = name
     f = member SUBSEP name
     if (!(f in frame)) {
@@ -72,16 +51,74 @@ function begin_function(name) {
             defined[name] = f
     }
     start[member SUBSEP section SUBSEP hex($1)] = f
-    depth = 0
-    base = -1
-    guess = -1
-    ended = 0
-    delete_known()
 }
 
-function delete_known(    k) {
+# Follows the function that was read along its jumps. How deep the stack is behind a jump is known once one to that place
+# was met, which may stand further on: so it is gone through until nothing new is learned, and then once more to count.
+function follow(    k) {
+    if (lines == 0)
+        return
     for (k in known)
         delete known[k]
+    do {
+        learned = 0
+        trace(0)
+    } while (learned)
+    trace(1)
+    lines = 0
+}
+
+# A place behind a jump that no jump leads to is one of a table of jumps, if there is one. Nothing is known of others: it is
+# what fills up to the next function, or can not be followed.
+function trace(counts,    i, at) {
+    depth = 0
+    base = guess = -1
+    for (i = 1; i <= lines; i++) {
+        at = line_at[i]
+        if (depth < 0)
+            depth = (at in known) ? known[at] : guess
+        else if ((at in known) && known[at] != depth)
+            doubt(f, "has no fixed size (" depth " or " known[at] " at " at ")")
+        if (depth < 0) {
+            if (counts && line_op[i] !~ /^(nop|xchg|int3|data16)/)
+                doubt(f, "has code that no jump leads to")
+            continue
+        }
+        if (line_branch[i] == "")
+            moves(line_op[i], line_args[i])
+        else
+            branches(i, counts)
+        if (counts)
+            reaches_by(line_args[i])
+        if (line_op[i] ~ /^(jmp|ret|ud2|hlt)/)
+            depth = -1
+    }
+}
+
+function branches(i, counts,    name) {
+    name = line_target[i]
+    if (line_branch[i] == "jump" && name == here) {
+        if (!(line_to[i] in known)) {
+            known[line_to[i]] = depth
+            learned = 1
+        }
+    } else if (line_branch[i] == "jump" && name == "") {
+        guess = depth
+    } else if (counts && name == "") {
+        indirect[f]++
+    } else if (counts) {
+        calls++
+        from[calls] = f
+        to[calls] = name
+        site[calls] = depth + (line_branch[i] == "call" ? 8 : 0)
+    }
+}
+
+function reaches_by(args) {
+    reaches(depth)
+    reaches(depth + number_at(args, "-0x[0-9a-f]+\\(%rsp"))
+    if (base >= 0)
+        reaches(base + number_at(args, "-0x[0-9a-f]+\\(%rbp"))
 }
 
 # What an instruction does to the stack pointer.
@@ -114,15 +151,13 @@ function moves(op, args) {
 
 # The target of a call or jump as the disassembly shows it: "4f <name+0x4f>". Through a pointer it shows a star.
 function shown(args,    name) {
-    target = ""
     if (args ~ /^\*/)
-        return
-    at_target = hex(args ~ /^[0-9a-f]+/ ? substr(args, 1, match(args, / |$/) - 1) : "0")
+        return ""
     name = args
     sub(/^[^<]*</, "", name)
     sub(/>.*$/, "", name)
     sub(/\+0x[0-9a-f]+$/, "", name)
-    target = name
+    return name
 }
 
 # A relocation names the target; a section in place of a name is looked up when all functions are known.
@@ -132,9 +167,9 @@ function relocated(symbol,    offset) {
         offset = hex(substr(symbol, RSTART + 3)) * (substr(symbol, RSTART, 1) == "-" ? -1 : 1)
         symbol = substr(symbol, 1, RSTART - 1)
     }
-    target = symbol ~ /^\./ ? "@" member SUBSEP symbol SUBSEP (offset + 4) : symbol
-    if (target == here)
-        target = "@" f
+    if (symbol == here)
+        return "@" f
+    return symbol ~ /^\./ ? "@" member SUBSEP symbol SUBSEP (offset + 4) : symbol
 }
 
 # The function that a call goes to, or "" where it leaves the file.
@@ -221,7 +256,7 @@ BEGIN {
 }
 
 /file format/ {
-    settle()
+    follow()
     member = $1
     sub(/:$/, "", member)
     if ($0 !~ /elf64-x86-64/)
@@ -229,7 +264,7 @@ BEGIN {
     next
 }
 /^Disassembly of section / {
-    settle()
+    follow()
     section = $NF
     sub(/:$/, "", section)
     next
@@ -242,12 +277,11 @@ BEGIN {
     next
 }
 /^\t\t\t[0-9a-f]+: R_X86_64/ {
-    if (branch != "" && (target != "" || through_rip))
-        relocated($NF)
+    if (line_branch[lines] != "" && (line_target[lines] != "" || line_args[lines] ~ /^\*.*\(%rip\)/))
+        line_target[lines] = relocated($NF)
     next
 }
 /^ *[0-9a-f]+:\t/ {
-    settle()
     split($0, column, "\t")
     address = column[1]
     gsub(/[ :]/, "", address)
@@ -260,27 +294,17 @@ BEGIN {
     sub(/ .*$/, "", op)
     args = text
     sub(/^[^ ]+ */, "", args)
-    if (ended) {
-        depth = (hex(address) in known) ? known[hex(address)] : guess >= 0 ? guess : frame[f]
-        ended = 0
-    }
-    if (op ~ /^call/ || op ~ /^j/) {
-        branch = op ~ /^call/ ? "call" : "jump"
-        through_rip = args ~ /^\*.*\(%rip\)/
-        shown(args)
-        ended = op ~ /^jmp/
-    } else {
-        moves(op, args)
-        ended = op ~ /^(ret|ud2|hlt)/
-    }
-    reaches(depth)
-    reaches(depth + number_at(args, "-0x[0-9a-f]+\\(%rsp"))
-    if (base >= 0)
-        reaches(base + number_at(args, "-0x[0-9a-f]+\\(%rbp"))
+    lines++
+    line_at[lines] = hex(address)
+    line_op[lines] = op
+    line_args[lines] = args
+    line_branch[lines] = op ~ /^call/ ? "call" : op ~ /^j/ ? "jump" : ""
+    line_target[lines] = line_branch[lines] == "" ? "" : shown(args)
+    line_to[lines] = args ~ /^[0-9a-f]+/ ? hex(substr(args, 1, match(args, / |$/) - 1)) : -1
 }
 
 END {
-    settle()
+    follow()
     for (i = calls; i > 0; i--) {
         after[i] = first[from[i]]
         first[from[i]] = i
