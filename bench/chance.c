@@ -8,7 +8,7 @@
 #include <string.h>
 #include <time.h>
 
-static uint64_t chance_state;
+uint64_t chance_state;
 
 void seed_chance(uint64_t seed)
 {
@@ -36,24 +36,6 @@ bool read_seed(const char *text, uint64_t *seed)
         return read_number(text, seed);
     *seed = (uint64_t)time(NULL);
     return true;
-}
-
-uint64_t any64(void)
-{
-    uint64_t z = chance_state += UINT64_C(0x9E3779B97F4A7C15);
-    z = (z ^ z >> 30) * UINT64_C(0xBF58476D1CE4E5B9);
-    z = (z ^ z >> 27) * UINT64_C(0x94D049BB133111EB);
-    return z ^ z >> 31;
-}
-
-unsigned below(unsigned n)
-{
-    return (unsigned)(any64() % n);
-}
-
-bool percent(unsigned p)
-{
-    return below(100) < p;
 }
 
 uint64_t any_bit(void)
@@ -85,15 +67,28 @@ uint64_t alias(uint64_t n, unsigned place)
     return n + (UINT64_C(1) << (place + below(64 - place)));
 }
 
+/* The least significant byte first, on every machine; one store where that is its order. */
+static void put_bytes(uint8_t *p, uint64_t v)
+{
+    p[0] = (uint8_t)v;
+    p[1] = (uint8_t)(v >> 8);
+    p[2] = (uint8_t)(v >> 16);
+    p[3] = (uint8_t)(v >> 24);
+    p[4] = (uint8_t)(v >> 32);
+    p[5] = (uint8_t)(v >> 40);
+    p[6] = (uint8_t)(v >> 48);
+    p[7] = (uint8_t)(v >> 56);
+}
+
+/* The bytes could be those of the state, as far as the compiler knows: so it is kept apart from them. */
 void any_bytes(uint8_t *p, size_t n)
 {
-    for (; n >= 8; p += 8, n -= 8) {
-        uint64_t v = any64();
-        for (int i = 0; i < 8; i++)
-            p[i] = (uint8_t)(v >> 8 * i);
-    }
+    uint64_t state = chance_state;
+    for (; n >= 8; p += 8, n -= 8)
+        put_bytes(p, mixed(state += CHANCE_STEP));
     for (; n > 0; n--)
-        *p++ = (uint8_t)any64();
+        *p++ = (uint8_t)mixed(state += CHANCE_STEP);
+    chance_state = state;
 }
 
 void flip_bit(uint8_t *p, unsigned n)

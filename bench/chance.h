@@ -22,12 +22,33 @@ void seed_part(uint64_t seed, uint64_t part);
 bool read_number(const char *text, uint64_t *n);
 bool read_seed(const char *text, uint64_t *seed);
 
-uint64_t any64(void);
+/* In line, since a night asks for hundreds of numbers for each call, mostly below one that is known here. */
+extern uint64_t chance_state;
+
+#define CHANCE_STEP UINT64_C(0x9E3779B97F4A7C15)
+
+static inline uint64_t mixed(uint64_t z)
+{
+    z = (z ^ z >> 30) * UINT64_C(0xBF58476D1CE4E5B9);
+    z = (z ^ z >> 27) * UINT64_C(0x94D049BB133111EB);
+    return z ^ z >> 31;
+}
+
+static inline uint64_t any64(void)
+{
+    return mixed(chance_state += CHANCE_STEP);
+}
 
 /* A number under n; n is far below 2^64, so the remainder's bias does not matter. */
-unsigned below(unsigned n);
+static inline unsigned below(unsigned n)
+{
+    return (unsigned)(any64() % n);
+}
 
-bool percent(unsigned p);
+static inline bool percent(unsigned p)
+{
+    return below(100) < p;
+}
 
 uint64_t any_bit(void);
 

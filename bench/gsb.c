@@ -292,13 +292,27 @@ static bool takes_now(const struct build *g, const struct row *row)
     return takes(g->access, g->wide, row) && (row->first != 0x0003 || g->access == R || agreed() != 0);
 }
 
+/* The rows that the call can take now, as bits; and one of them. */
+static unsigned taken_rows(const struct build *g)
+{
+    unsigned rows = 0;
+    for (unsigned i = 0; i < COUNT(ROWS); i++)
+        rows |= (unsigned)takes_now(g, &ROWS[i]) << i;
+    return rows;
+}
+
+static const struct row *any_row(unsigned rows)
+{
+    unsigned i;
+    do
+        i = below(COUNT(ROWS));
+    while (!(rows >> i & 1));
+    return &ROWS[i];
+}
+
 unsigned taken_id(const struct build *g)
 {
-    for (;;) {
-        const struct row *row = &ROWS[below(COUNT(ROWS))];
-        if (takes_now(g, row))
-            return any_of(row);
-    }
+    return any_of(any_row(taken_rows(g)));
 }
 
 /* Adds an element of this size; where a rule judges its value, an edge of the rule; where the clock rounds it, mostly
@@ -380,9 +394,12 @@ void build_ends(struct build *g)
 /* The greatest length, with as many elements as there is room for. */
 void build_full(struct build *g)
 {
+    unsigned rows = taken_rows(g);
     build_all(g);
-    while (g->len + 4 + 24 <= ADK_BUFFER_MAX)
-        add_good(g, taken_id(g));
+    while (g->len + 4 + 24 <= ADK_BUFFER_MAX) {
+        const struct row *row = any_row(rows);
+        add_value(g, any_of(row), row->size, true);
+    }
     fill_up(g, ADK_GSID_NOP);
     g->high = g->len;
 }

@@ -12,15 +12,16 @@ static bool outside_intact(const struct call *c, enum piece p, enum side s)
     return memcmp(memory[s][p] + len, memory[BEFORE][p] + len, all - len) == 0 && guards_intact(p, s, all);
 }
 
-static unsigned differing_bytes(const struct call *c)
+/* ours: the vendor left what the library did, so what is outside of one is outside of both. */
+static unsigned differing_bytes(const struct call *c, bool ours)
 {
     unsigned what = 0;
     for (int p = 0; p < PIECES; p++) {
         if (c->kind->use[p] == NOT_LENT)
             continue;
-        if (!same_bytes(p, LIBRARY, OTHER, c->len[p]))
+        if (!ours && !same_bytes(p, LIBRARY, OTHER, c->len[p]))
             what |= A(p == STORE ? STORE_BYTES : BUFFER_BYTES);
-        if (!outside_intact(c, p, LIBRARY) || !outside_intact(c, p, OTHER))
+        if (!outside_intact(c, p, LIBRARY) || (!ours && !outside_intact(c, p, OTHER)))
             what |= A(OUTSIDE);
     }
     return what;
@@ -42,7 +43,10 @@ void make_both(struct made *m, struct vendor *v)
     if (!m->deed.returned)
         return;
     m->answers_differ = !same_answer(&m->ours, &m->theirs);
-    m->deed.what |= differing_bytes(&m->call);
+    bool ours = left_ours(v, &m->call);
+    if (!ours)
+        take_theirs(v, &m->call);
+    m->deed.what |= differing_bytes(&m->call, ours);
 }
 
 void settle(const struct made *m)

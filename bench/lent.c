@@ -51,11 +51,16 @@ void share(enum piece p, size_t at, size_t n)
         memcpy(memory[s][p] + at, memory[BEFORE][p] + at, n);
 }
 
-void share_all(void)
+void renew(enum side s)
 {
     for (int p = 0; p < PIECES; p++)
-        for (int s = 0; s < BEFORE; s++)
-            memcpy(memory[s][p] - GUARD, memory[BEFORE][p] - GUARD, size_with_guards(p));
+        memcpy(memory[s][p] - GUARD, memory[BEFORE][p] - GUARD, size_with_guards(p));
+}
+
+void share_all(void)
+{
+    renew(LIBRARY);
+    renew(OTHER);
 }
 
 bool same_bytes(enum piece p, enum side a, enum side b, size_t n)

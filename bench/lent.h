@@ -3,7 +3,8 @@
  *
  * Each piece is there three times: lent to the library, lent to the other side (the model, or a vendor's library), and
  * as it was before the call. Between two calls the three are equal, with what lies beside them, so that BEFORE also
- * tells the guard bytes.
+ * tells the guard bytes. A vendor has its memory elsewhere (window.h): there OTHER is what it left, where that differs or
+ * is told, and is of no use else.
  */
 #ifndef LENT_H
 #define LENT_H
@@ -41,9 +42,10 @@ void make_memory(void);
 void fill_memory(void);
 void free_memory(void);
 
-/* Gives both sides the bytes that were written to BEFORE; or all that there is. */
+/* Gives both sides the bytes that were written to BEFORE; or all that there is; or all to one side. */
 void share(enum piece p, size_t at, size_t n);
 void share_all(void);
+void renew(enum side s);
 
 bool same_bytes(enum piece p, enum side a, enum side b, size_t n);
 

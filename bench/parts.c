@@ -32,13 +32,20 @@ struct job {
 
 /* ---- A part ---- */
 
+static void tell(FILE *to, const struct job *j, const struct made *m, bool all)
+{
+    if (m->deed.returned)
+        take_theirs(&j->vendor, &m->call);
+    tell_made(to, j->order, m, all);
+}
+
 static void tell_first(struct job *j, const struct made *m)
 {
     struct told *told = tell_next(j->figures, m->number);
     FILE *to = told == NULL ? NULL : fmemopen(told->text, TOLD_SIZE - 1, "w");
     if (to == NULL)
         return;
-    tell_made(to, j->order, m, false);
+    tell(to, j, m, false);
     fclose(to);
 }
 
@@ -50,7 +57,7 @@ static void note_made(struct job *j, const struct made *m)
             tell_first(j, m);
     } else if (m->number == j->order->only) {
         count_call(j->figures, m);
-        tell_made(stdout, j->order, m, true);
+        tell(stdout, j, m, true);
     }
 }
 

@@ -251,8 +251,16 @@ void post_call(struct vendor *v, const struct call *c)
 struct deed await_call(struct vendor *v, const struct call *c, adk_found *found)
 {
     struct deed deed = await(v, c);
-    *found = (adk_found){ 0 };
-    if (deed.returned)
-        take_call(&v->window, c, v->keeps_store, found);
+    *found = deed.returned ? v->window.desk->found : (adk_found){ 0 };
     return deed;
+}
+
+bool left_ours(const struct vendor *v, const struct call *c)
+{
+    return holds_ours(&v->window, c, v->keeps_store);
+}
+
+void take_theirs(const struct vendor *v, const struct call *c)
+{
+    take_bytes(&v->window, c, v->keeps_store);
 }

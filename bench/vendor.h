@@ -64,9 +64,13 @@ void close_vendor(struct vendor *v);
 /* Starts the process if there is none. */
 bool start_vendor(struct vendor *v, char why[DESK_TEXT]);
 
-/* A call: begun, and then waited for. In between the score does what it has to do itself. The bytes that the vendor
-   left are then in OTHER. A process that did more than return is ended. */
+/* A call: begun, and then waited for. In between the score does what it has to do itself. A process that did more than
+   return is ended; what it left stays in the window. */
 void post_call(struct vendor *v, const struct call *c);
 struct deed await_call(struct vendor *v, const struct call *c, adk_found *found);
+
+/* Whether the vendor left the bytes that the library did; and all that it left, put into OTHER. */
+bool left_ours(const struct vendor *v, const struct call *c);
+void take_theirs(const struct vendor *v, const struct call *c);
 
 #endif

@@ -78,6 +78,11 @@ uint8_t *lent_at(const struct window *w, enum piece p, size_t len)
     return w->end[p] - len;
 }
 
+static bool is_shared(const struct call *c, enum piece p, bool keeps_store)
+{
+    return c->kind->use[p] != NOT_LENT && (p != STORE || !keeps_store);
+}
+
 void put_call(struct window *w, const struct call *c, bool keeps_store)
 {
     struct desk *d = w->desk;
@@ -86,16 +91,25 @@ void put_call(struct window *w, const struct call *c, bool keeps_store)
     memcpy(d->call.len, c->len, sizeof c->len);
     memcpy(d->call.n, c->n, sizeof c->n);
     for (int p = 0; p < PIECES; p++)
-        if (c->kind->use[p] != NOT_LENT && (p != STORE || !keeps_store))
+        if (is_shared(c, p, keeps_store))
             memcpy(lent_at(w, p, c->len[p]) - GUARD, memory[BEFORE][p] - GUARD, GUARD + c->len[p]);
 }
 
-void take_call(const struct window *w, const struct call *c, bool keeps_store, adk_found *found)
+bool holds_ours(const struct window *w, const struct call *c, bool keeps_store)
 {
-    *found = w->desk->found;
+    bool ours = true;
+    for (int p = 0; p < PIECES && ours; p++)
+        if (is_shared(c, p, keeps_store))
+            ours = memcmp(lent_at(w, p, c->len[p]) - GUARD, memory[LIBRARY][p] - GUARD, GUARD + c->len[p]) == 0;
+    return ours;
+}
+
+void take_bytes(const struct window *w, const struct call *c, bool keeps_store)
+{
+    renew(OTHER);
     for (int p = 0; p < PIECES; p++)
         if (c->kind->use[p] != NOT_LENT) {
-            const uint8_t *from = p == STORE && keeps_store ? memory[LIBRARY][p] : lent_at(w, p, c->len[p]);
+            const uint8_t *from = is_shared(c, p, keeps_store) ? lent_at(w, p, c->len[p]) : memory[LIBRARY][p];
             memcpy(memory[OTHER][p] - GUARD, from - GUARD, GUARD + c->len[p]);
         }
 }

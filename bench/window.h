@@ -3,7 +3,7 @@
  * not be touched, and a desk for what the two tell each other.
  *
  * The vendor may write anything to all of it. So the score never acts on a pointer or a length that it finds here: it
- * copies what it lends in, and copies bytes and an answer out, which it then only compares.
+ * copies what it lends in, and only compares what comes back. Bytes are copied out where they differ or are told.
  */
 #ifndef WINDOW_H
 #define WINDOW_H
@@ -56,11 +56,15 @@ void free_window(struct window *w);
 /* Where a piece of this length is lent. */
 uint8_t *lent_at(const struct window *w, enum piece p, size_t len);
 
-/* Puts a call and what it is lent into the window, and takes back the bytes and the answer. The bytes in front of a
-   piece go with it; behind it there is nothing that could be touched. keeps_store: the store is the vendor's own; it is
-   neither written nor looked at, and the library's is taken for it. */
+/* Puts a call and what it is lent into the window. The bytes in front of a piece go with it; behind it there is nothing
+   that could be touched. keeps_store: the store is the vendor's own; it is neither written nor looked at. */
 void put_call(struct window *w, const struct call *c, bool keeps_store);
-void take_call(const struct window *w, const struct call *c, bool keeps_store, adk_found *found);
+
+/* Whether the bytes are those that the library left. */
+bool holds_ours(const struct window *w, const struct call *c, bool keeps_store);
+
+/* Puts the bytes into OTHER; a store that is the vendor's own is taken to be the library's. */
+void take_bytes(const struct window *w, const struct call *c, bool keeps_store);
 
 bool desk_intact(const struct window *w);
 
