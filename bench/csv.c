@@ -69,7 +69,7 @@ void csv_score(FILE *to, const struct result *r)
     row(to, "night", "seed", "number", r->order->seed);
     row(to, "night", "calls", "made", f->made);
     row(to, "night", "calls", "agreed", f->agreed);
-    row(to, "night", "calls", "not made", f->skipped);
+    row(to, "night", "calls", "not made", r->order->calls - f->made);
     rows_of_disagreements(to, f);
     rows_of_cover(to, &f->cover, r->order->manner);
     row(to, "verdict", r->order->vendor, verdict_name(r->verdict), r->verdict);

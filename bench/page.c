@@ -6,6 +6,7 @@
 #include "tell.h"
 
 #include <inttypes.h>
+#include <stdlib.h>
 #include <string.h>
 
 /* ---- How it looks ---- */
@@ -73,6 +74,19 @@ static void put_number(FILE *to, uint64_t n)
         fprintf(to, i > 0 && (length - i) % 3 == 0 ? ",%c" : "%c", digits[i]);
 }
 
+/* A sentence of the score's own words, with the thousands of its numbers apart. */
+static void put_sentence(FILE *to, const char *text)
+{
+    while (*text != '\0') {
+        size_t digits = strspn(text, "0123456789");
+        if (digits == 0)
+            fputc(*text++, to);
+        else
+            put_number(to, strtoull(text, NULL, 10));
+        text += digits;
+    }
+}
+
 static void put_cell(FILE *to, uint64_t n)
 {
     fputs("<td class=\"n\">", to);
@@ -132,7 +146,7 @@ static void put_head(FILE *to, const struct result *r)
     put_text(to, name);
     fprintf(to, "</h1>\n<div class=\"verdict %s\"><b id=\"verdict\">%s</b><span id=\"sentence\">", look[r->verdict],
             verdict_name(r->verdict));
-    put_text(to, r->sentence);
+    put_sentence(to, r->sentence);
     fputs("</span></div>\n", to);
 }
 
@@ -152,8 +166,10 @@ static void put_facts(FILE *to, const struct result *r)
     snprintf(text, sizeof text, "0x%" PRIX64 "%s", o->seed, o->manner.only_nops ? ", buffers of NOPs only" : "");
     put_code(to, "Seed", text);
     snprintf(text, sizeof text, "%" PRIu64 " made, %" PRIu64 " agreed, %" PRIu64 " disagreed, %" PRIu64 " not made",
-             r->figures->made, r->figures->agreed, r->figures->made - r->figures->agreed, r->figures->skipped);
-    put_fact(to, "Calls", text);
+             r->figures->made, r->figures->agreed, r->figures->made - r->figures->agreed, o->calls - r->figures->made);
+    fputs("<dt>Calls</dt><dd id=\"calls\">", to);
+    put_sentence(to, text);
+    fputs("</dd>\n", to);
     snprintf(text, sizeof text, "%s, for %.1f seconds", start, r->seconds);
     put_fact(to, "Started", text);
     fputs("<dt>To repeat</dt><dd>", to);
