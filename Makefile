@@ -12,12 +12,12 @@ ARGS =
 
 archive = target/staticlib/libadderknot.a
 bench = target/bench
-programs = $(addprefix $(bench)/,calls compare count example score score-vendor shallow speed)
+programs = $(addprefix $(bench)/,calls compare count example hand-over score score-vendor shallow speed)
 vendors = $(patsubst bench/mistakes/%.edit,$(bench)/vendor-%.so,$(wildcard bench/mistakes/*.edit)) \
     $(patsubst tests/score/hostile/%.c,$(bench)/hostile-%.so,$(wildcard tests/score/hostile/*.c)) \
     $(bench)/model.so $(bench)/private.so
 headers = $(wildcard include/*.h bench/*.h)
-night = $(addprefix bench/,night.c gsb.c lent.c chance.c tell.c)
+night = $(addprefix bench/,night.c form.c gsb.c lent.c chance.c tell.c)
 scoring = $(addprefix bench/,account.c cover.c csv.c figures.c judge.c order.c page.c parts.c result.c sha256.c \
     text.c vendor.c watch.c window.c)
 
@@ -147,10 +147,12 @@ $(bench)/score-vendor: bench/host.c bench/window.c $(filter-out bench/tell.c,$(n
 	mkdir -p $(bench)
 	$(CC) $(CFLAGS) -Iinclude $(filter %.c,$^) -ldl -o $@
 
-# The example of README.md, as it stands there.
-$(bench)/example: README.md include/adderknot.h $(archive)
+# The examples of README.md, as they stand there: its first and its second block of C.
+$(bench)/example: block = 1
+$(bench)/hand-over: block = 2
+$(bench)/example $(bench)/hand-over: README.md $(wildcard include/*.h) $(archive)
 	mkdir -p $(bench)
-	awk '/^```c$$/ { on = !seen++; next } /^```$$/ { on = 0 } on' README.md > $@.c
+	awk -v n=$(block) '/^```c$$/ { on = ++seen == n; next } /^```$$/ { on = 0 } on' README.md > $@.c
 	$(CC) $(CFLAGS) -Iinclude $@.c $(archive) -o $@
 
 # The model under the names of adderknot.h: as it is, with each of the mistakes, hostile, and with a state of its own.

@@ -11,6 +11,7 @@
  *                                           numbers and the buffers lent. r4 and r5 are 0 where they are left out
  *     NAME numbers buffers = r3 r4 r5 [..]  the same, where the call writes a buffer: what that buffer holds afterwards
  *     store_is AT [..]                      the store holds these bytes from byte AT
+ *     store_put AT [..]                     puts bytes there
  *     slot_is SLOT AT [..]                  the values of a slot do
  *     slot_put SLOT AT [..]                 puts bytes there
  *
@@ -32,7 +33,7 @@
 enum { NUMBERS = 4, PIECES = 3, BYTES_MAX = ADK_BUFFER_MAX + 1, TEXT_MAX = 4096 };
 
 /* Where the values of the slots begin in a store, and how many bytes each has. */
-enum { SLOT_VALUES = 458, SLOT_SIZE = 1820 };
+enum { SLOT_VALUES = 460, SLOT_SIZE = 1820 };
 
 struct bytes {
     size_t n;
@@ -163,9 +164,10 @@ static bool carry_out(const struct statement *t)
     for (size_t i = 0; i < COUNT(KINDS); i++)
         if (strcmp(t->name, KINDS[i].name) == 0)
             return call(&KINDS[i], t);
-    if (strcmp(t->name, "store_is") == 0 && t->numbers == 1)
-        return store_bytes(t, t->number[0], false);
-    bool put = strcmp(t->name, "slot_put") == 0;
+    bool put = strcmp(t->name, "store_put") == 0;
+    if ((put || strcmp(t->name, "store_is") == 0) && t->numbers == 1)
+        return store_bytes(t, t->number[0], put);
+    put = strcmp(t->name, "slot_put") == 0;
     if ((put || strcmp(t->name, "slot_is") == 0) && t->numbers == 2 && t->number[0] < ADK_SLOTS)
         return store_bytes(t, SLOT_VALUES + SLOT_SIZE * t->number[0] + t->number[1], put);
     return false;

@@ -1,6 +1,6 @@
 /*
- * cases.c: the work that speed.c times and count.c repeats: calls that walk a guest state buffer, and those that create
- * and delete.
+ * cases.c: the work that speed.c times and count.c repeats: calls that walk a guest state buffer, those that create and
+ * delete, and those that hand a vCPU over.
  */
 #include "cases.h"
 
@@ -8,8 +8,8 @@
 
 #include <string.h>
 
-/* Where the values begin in a store. */
-enum { VALUES = 42 };
+/* Where the marks and the values begin in a store, and the values of the last slot. */
+enum { MARKS = 42, VALUES = 44, SLOT_SIZE = 1820, LAST_VALUES = ADK_STORE_SIZE - SLOT_SIZE };
 
 /* ---- The two sides ---- */
 
@@ -52,6 +52,26 @@ static adk_found call_anew(struct party *s)
     adk_answer guest = s->on.create_guest(s->store, sizeof s->store, 0, ADK_TOKEN);
     adk_answer vcpu = s->on.create_vcpu(s->store, sizeof s->store, 0, guest.r4, VCPU);
     return (adk_found){ gone.r3 | guest.r3 | vcpu.r3, guest.r4, 0, 0, 0 };
+}
+
+/* Values that a vCPU is to have before it is taken, each byte another. */
+static uint8_t values[SLOT_SIZE];
+
+/* The values are put back first, and the mark is taken away, so that each call takes the same. */
+static adk_found call_take(struct party *s)
+{
+    memcpy(s->store + LAST_VALUES, values, SLOT_SIZE);
+    s->store[MARKS + 1] &= 0xFE;
+    return plain(s->on.get_state(s->store, sizeof s->store, ADK_HAND_OVER, GUEST, VCPU, s->buffer.bytes,
+                                 s->buffer.len));
+}
+
+/* The mark is set first, so that each call gives back. */
+static adk_found call_give(struct party *s)
+{
+    s->store[MARKS + 1] |= 1;
+    return plain(s->on.set_state(s->store, sizeof s->store, ADK_HAND_OVER, GUEST, VCPU, s->buffer.bytes,
+                                 s->buffer.len));
 }
 
 static adk_found call_lookup(struct party *s)
@@ -159,6 +179,22 @@ static void build_bad(struct buffer *b)
     add(b, 0x3040, 16);
 }
 
+/* Room for a form. */
+static void build_room(struct buffer *b)
+{
+    b->len = ADK_FORM_MAX;
+}
+
+/* A form of the vCPU with all 170 values: version 1, the id, a zero, 170 ones, six zeros. */
+static void build_form(struct buffer *b)
+{
+    put(b->bytes, 2, 0x1000 | VCPU << 1);
+    memset(b->bytes + 2, 0xFF, ADK_FORM_MIN - 2);
+    b->bytes[ADK_FORM_MIN - 1] = 0xC0;
+    memcpy(b->bytes + ADK_FORM_MIN, values, SLOT_SIZE);
+    b->len = ADK_FORM_MAX;
+}
+
 static void build_nops(struct buffer *b)
 {
     memset(b->bytes + 4, 0, ADK_BUFFER_MAX - 4);
@@ -177,6 +213,8 @@ const struct work WORK[] = {
     { "run, exit 0xC00, empty input and effect", call_run, build_none, 0, 0, ADK_OK, ADK_EXIT_HCALL },
     { "run, exit 0xC00, 164 elements of input and 20 of effect", call_run, build_164, 164, 20, ADK_OK, ADK_EXIT_HCALL },
     { "delete a guest, create it and its vCPU, the other 15 slots in use", call_anew, build_none, 0, 0, ADK_OK, GUEST },
+    { "get state, a vCPU with all 170 values taken", call_take, build_room, 0, 0, ADK_OK, 0 },
+    { "set state, a vCPU with all 170 values given back", call_give, build_form, 0, 0, ADK_OK, 0 },
 };
 
 const size_t WORKS = sizeof WORK / sizeof WORK[0];
@@ -194,6 +232,7 @@ bool fill_store(uint8_t *store)
     refused |= adk_create_vcpu(store, ADK_STORE_SIZE, 0, GUEST, VCPU).r3;
     for (size_t i = VALUES; i < ADK_STORE_SIZE; i++)
         store[i] = (uint8_t)(101 * i);
+    memcpy(values, store + LAST_VALUES, SLOT_SIZE);
     begin(&both, 2);
     build_registrations(&both);
     refused |= adk_set_state(store, ADK_STORE_SIZE, 0, GUEST, VCPU, both.bytes, both.len).r3;

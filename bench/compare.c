@@ -10,13 +10,16 @@
  *     agreement   r3, r4, r5, the place of a value found, and all lent bytes are the same
  *     unchanged   a refusal changed no lent byte, and no call changed what it may only read
  *     guards      no byte beside lent memory changed
- *     order       each set of a run's faults gave the answer of the one that the scope puts first
+ *     order       each set of faults of a run, of get and set state, and of both hand-overs gave the answer of the one
+ *                 that the scope puts first
  *     coverage    each call gave each answer that it can give, 2 with each unsupported bit as r4, and no other; each
  *                 element was read and set where its access permits and refused where not, in a run's input and effect
  *                 too; each edge of a value rule, of a buffer's length and of a registered size was met; each exit was
  *                 accepted, and numbers close to one were refused; the clock was asked for each pair of a TB offset and
  *                 a timebase at their edges; with each bitmap agreed, each and one that is not offered was asked for,
- *                 while guests lived and while none did
+ *                 while guests lived and while none did; each element was present and absent in a form that was taken
+ *                 and in one that was given back, forms with just one wrong part were refused for each part, and a
+ *                 taken vCPU was met by each call that could mistake it
  *
  * The run ends at the first difference.
  */
@@ -40,17 +43,51 @@ static const char *const BITMAP_NAME[BITMAP_COUNT + 1] = {
     "nothing", "POWER9", "POWER10", "POWER9 and POWER10", "what is not offered"
 };
 
+/* What is to happen around a vCPU that is handed over. */
+enum scene {
+    BACK_AS_TAKEN,
+    BACK_TO_ANOTHER_GUEST,
+    BYTES_BEHIND,
+    CUT_BY_ONE,
+    BACK_OVER_VALUES,
+    CREATED_AGAIN,
+    GUEST_DROPPED,
+    ALL_DROPPED,
+    WIDE_GET,
+    WIDE_SET,
+    BOTH_BITS,
+    UNUSED_MARKED,
+    SCENES
+};
+
+static const char *const SCENE_NAME[SCENES] = {
+    [BACK_AS_TAKEN] = "a vCPU given back with the form that was taken",
+    [BACK_TO_ANOTHER_GUEST] = "a form given to another guest's vCPU of the same id",
+    [BYTES_BEHIND] = "a form given back with bytes behind it",
+    [CUT_BY_ONE] = "a form refused that lacks its last byte",
+    [BACK_OVER_VALUES] = "a form with absent values given to a vCPU whose bytes are not zero",
+    [CREATED_AGAIN] = "a taken vCPU created again, which exists",
+    [GUEST_DROPPED] = "a guest deleted that has a taken vCPU",
+    [ALL_DROPPED] = "all guests deleted, with a vCPU taken",
+    [WIDE_GET] = "a guest-wide get that names a taken vCPU",
+    [WIDE_SET] = "a guest-wide set that names a taken vCPU",
+    [BOTH_BITS] = "bits 0 and 1 together",
+    [UNUSED_MARKED] = "a store that is ill formed by a mark alone",
+};
+
 /* ---- The comparison ---- */
 
 struct run {
     uint64_t seed, calls, number;
     uint64_t agreed; /* before the call */
+    bool named_taken, guest_taken, any_taken; /* before it: the vCPU it names, one of the guest it names, any */
+    bool over;                                /* before it: the vCPU it names had bytes that are not zero */
     bool quiet;
     uint64_t tally[KIND_COUNT][ANSWERS];
     unsigned with_r4[KIND_COUNT][2];        /* the answers given with r4 0, and with another r4 */
     unsigned with_r5[KIND_COUNT];           /* those given with an r5 that is not 0 */
     uint64_t bad_bits[KIND_COUNT];          /* the bits told as r4 of answer 2 */
-    uint32_t lengths[KIND_COUNT];           /* which of LENGTHS a buffer or an effect had that was judged */
+    uint32_t lengths[KIND_COUNT];           /* which of its lengths a buffer or an effect had that was judged */
     uint8_t used[0x10000];                  /* how an ID was used: read, set, or taken by a run */
     uint8_t refused[KIND_COUNT][ROW_COUNT]; /* the uses for which an ID of the row was refused */
     bool edges[EDGE_COUNT];                 /* those that were judged as their row says */
@@ -59,9 +96,28 @@ struct run {
     bool exits[EXIT_COUNT], no_exits[NO_EXIT_COUNT];
     bool clocks[OFFSET_COUNT][TIMEBASE_COUNT]; /* which pairs the clock was told for */
     bool bitmaps[BITMAP_COUNT][BITMAP_COUNT + 1][2]; /* which was agreed, which asked for, and whether a guest lived */
+    bool handed[2][THREAD_ELEMENTS][2]; /* by call: which elements an accepted form had absent, and present */
+    bool wrong[PARTS];                  /* the parts that were alone wrong in a form that was refused */
+    bool zeros[17];                     /* the sizes of values that were alone wrong */
+    bool scenes[SCENES];
+    struct taken {
+        uint64_t guest;
+        uint8_t form[ADK_FORM_MAX];
+    } taken[ADK_VCPU_MAX + 1]; /* by vCPU id, what was taken last */
 };
 
-static const size_t LENGTHS[] = { 0, 1, 2, 3, 4, 5, 6, 7, 8, ADK_BUFFER_MAX - 1, ADK_BUFFER_MAX, ADK_BUFFER_MAX + 1 };
+/* The lengths at which a call's judgement of them changes: of a guest state buffer, and of what is handed over. */
+enum { LENGTHS_MOST = 12 };
+static const struct lengths {
+    size_t n, of[LENGTHS_MOST];
+} BUFFER_LENGTHS = { 12, { 0, 1, 2, 3, 4, 5, 6, 7, 8, ADK_BUFFER_MAX - 1, ADK_BUFFER_MAX, ADK_BUFFER_MAX + 1 } },
+  FORM_LENGTHS = { 6, { ADK_FORM_MIN - 1, ADK_FORM_MIN, ADK_FORM_MAX - 1, ADK_FORM_MAX, ADK_BUFFER_MAX,
+                        ADK_BUFFER_MAX + 1 } };
+
+static const struct lengths *lengths_of(const struct kind *k)
+{
+    return k->hand != NO_HAND ? &FORM_LENGTHS : &BUFFER_LENGTHS;
+}
 
 /* What the call broke in this piece, or NULL. Where it holds, BEFORE is brought up to date. */
 static const char *broken(const struct call *c, enum piece p, bool accepted)
@@ -164,7 +220,7 @@ static void note_run(struct run *r, const struct call *c, const adk_found *f)
         note_bad(r, k, memory[BEFORE][INPUT] + f->r4, RUN_IN, false);
     if (f->r3 == ADK_BAD_EFFECT && f->r4 != 0 && c->len[EFFECT] - f->r4 >= 4)
         note_bad(r, k, memory[BEFORE][EFFECT] + f->r4, RUN_EFFECT, false);
-    if (f->r3 == ADK_OK || f->r3 > ADK_BAD_VCPU) {
+    if (f->r3 == ADK_OK || (f->r3 > ADK_BAD_VCPU && f->r3 != ADK_WRONG_OWNER)) {
         note_run_buffer(r, c, f, 0);
         note_run_buffer(r, c, f, 1);
     }
@@ -198,10 +254,117 @@ static void note_bitmap(struct run *r, const struct call *c)
     r->bitmaps[bitmap_number(r->agreed)][bitmap_number(c->n[1])][alive] = true;
 }
 
-/* The length that 5 or, in a run, 14 judged; or one that is no edge. */
+/* ---- Hand-overs ---- */
+
+static struct taken *taken_of(struct run *r, const struct call *c)
+{
+    return &r->taken[c->n[2] & ADK_VCPU_MAX];
+}
+
+/* A vCPU that was taken: BEFORE has the form. */
+static void note_taken(struct run *r, const struct call *c)
+{
+    const uint8_t *form = memory[BEFORE][BUFFER];
+    struct taken *t = taken_of(r, c);
+    for (unsigned e = 0; e < THREAD_ELEMENTS; e++)
+        r->handed[0][e][is_present(form, e)] = true;
+    t->guest = c->n[1];
+    memcpy(t->form, form, read_form(form).len);
+}
+
+/* A vCPU that was given back. */
+static void note_given(struct run *r, const struct call *c)
+{
+    const uint8_t *form = memory[BEFORE][BUFFER];
+    const struct taken *t = taken_of(r, c);
+    struct form f = read_form(form);
+    for (unsigned e = 0; e < THREAD_ELEMENTS; e++)
+        r->handed[1][e][is_present(form, e)] = true;
+    if (t->guest != 0 && memcmp(t->form, form, f.len) == 0)
+        r->scenes[t->guest == c->n[1] ? BACK_AS_TAKEN : BACK_TO_ANOTHER_GUEST] = true;
+    r->scenes[BYTES_BEHIND] |= c->len[BUFFER] > f.len;
+    r->scenes[BACK_OVER_VALUES] |= r->over && f.present < THREAD_ELEMENTS;
+}
+
+/* A form that was refused, of at least ADK_FORM_MIN bytes. */
+static void note_refused_form(struct run *r, const struct call *c)
+{
+    const uint8_t *form = memory[BEFORE][BUFFER];
+    size_t len = c->len[BUFFER];
+    unsigned wrong = wrong_parts(form, len, (unsigned)c->n[2]);
+    for (unsigned p = 0; p < PARTS; p++)
+        r->wrong[p] |= wrong == A(p);
+    if (wrong == A(WRONG_VALUE))
+        r->zeros[thread_size(zero_value(form, len))] = true;
+    r->scenes[CUT_BY_ONE] |= wrong == A(CUT) && read_form(form).len == len + 1;
+}
+
+static void note_hand_over(struct run *r, const struct call *c, const adk_found *f)
+{
+    if (f->r3 == ADK_BAD_FORM)
+        note_refused_form(r, c);
+    if (f->r3 != ADK_OK)
+        return;
+    if (c->kind->hand == TAKING)
+        note_taken(r, c);
+    else
+        note_given(r, c);
+}
+
+/* What the store before the call has, as far as a scene asks for it. */
+static void look_before(struct run *r, const struct call *c)
+{
+    const uint8_t *s = memory[BEFORE][STORE];
+    unsigned slot = c->kind->use[STORE] == NOT_LENT ? ADK_SLOTS : slot_of(c);
+    bool used = slot < ADK_SLOTS;
+    const uint8_t *values = s + SLOT_VALUES + SLOT_SIZE * (used ? slot : 0);
+    r->agreed = agreed();
+    r->named_taken = used && is_marked(slot);
+    r->over = used && (values[0] != 0 || memcmp(values, values + 1, SLOT_SIZE - 1) != 0);
+    r->guest_taken = r->any_taken = false;
+    for (unsigned i = 0; i < ADK_SLOTS; i++) {
+        r->any_taken |= is_marked(i);
+        r->guest_taken |= is_marked(i) && (adk_read_be(s + WORDS + 2 * i, 2) >> 11 & 15) == c->n[1];
+    }
+}
+
+/* Whether the store, refused as ill formed, is well formed but for marks on slots that are not used. */
+static bool ill_by_marks(const struct call *c)
+{
+    static uint8_t store[ADK_STORE_SIZE];
+    if (c->len[STORE] != ADK_STORE_SIZE)
+        return false;
+    memcpy(store, memory[BEFORE][STORE], sizeof store);
+    for (unsigned slot = 0; slot < ADK_SLOTS; slot++)
+        if (!is_used(slot))
+            put_mark(store, slot, false);
+    return mdl_get_capabilities(store, sizeof store, 0).r3 == ADK_OK;
+}
+
+/* Where another call meets a taken vCPU. */
+static void note_scene(struct run *r, const struct call *c, const adk_found *f)
+{
+    const struct kind *k = c->kind;
+    bool accepted = f->r3 == ADK_OK, deletes = is_delete(k);
+    r->scenes[CREATED_AGAIN] |= f->r3 == ADK_VCPU_EXISTS && r->named_taken;
+    r->scenes[GUEST_DROPPED] |= deletes && accepted && c->n[0] == 0 && r->guest_taken;
+    r->scenes[ALL_DROPPED] |= deletes && accepted && c->n[0] != 0 && r->any_taken;
+    r->scenes[WIDE_GET] |= k->wide && k->access == R && accepted && r->named_taken;
+    r->scenes[WIDE_SET] |= k->wide && k->access == W && accepted && r->named_taken;
+    r->scenes[BOTH_BITS] |= k->wide && f->r3 == ADK_BAD_FLAG && c->n[0] == (ADK_GUEST_WIDE | ADK_HAND_OVER);
+    if (f->r3 == ADK_BAD_STORE && !r->scenes[UNUSED_MARKED])
+        r->scenes[UNUSED_MARKED] = ill_by_marks(c);
+}
+
+/* ---- All that is noted ---- */
+
+/* The length that 5 or, in a run, 14 judged; or one that is no edge. 16 stands before both; 17 is given at any length
+   that 5 lets pass. */
 static size_t judged_length(const struct call *c, const adk_found *f)
 {
     bool run = is_run(c->kind);
+    if (f->r3 == ADK_WRONG_OWNER || f->r3 == ADK_BAD_FORM)
+        return SIZE_MAX;
     if (f->r3 != ADK_OK && f->r3 < (run ? ADK_BAD_EFFECT : ADK_BAD_LENGTH))
         return SIZE_MAX;
     return c->len[run ? EFFECT : BUFFER];
@@ -210,15 +373,19 @@ static size_t judged_length(const struct call *c, const adk_found *f)
 static void note(struct run *r, const struct call *c, const adk_found *f)
 {
     size_t k = (size_t)(c->kind - KINDS), len = judged_length(c, f);
+    const struct lengths *lengths = lengths_of(c->kind);
     r->tally[k][f->r3]++;
     r->with_r4[k][f->r4 != 0] |= A(f->r3);
     r->with_r5[k] |= f->r5 != 0 ? A(f->r3) : 0;
     if (f->r3 == ADK_BAD_FLAG)
         r->bad_bits[k] |= ADK_BIT(f->r4 & 63);
-    for (size_t i = 0; i < COUNT(LENGTHS); i++)
-        if (len == LENGTHS[i])
+    for (size_t i = 0; i < lengths->n; i++)
+        if (len == lengths->of[i])
             r->lengths[k] |= A(i);
-    if (c->kind->access != 0)
+    note_scene(r, c, f);
+    if (c->kind->hand != NO_HAND)
+        note_hand_over(r, c, f);
+    else if (c->kind->access != 0)
         note_state(r, c, f);
     else if (is_run(c->kind))
         note_run(r, c, f);
@@ -231,7 +398,7 @@ static void note(struct run *r, const struct call *c, const adk_found *f)
 /* One call on both sides; 0 if nothing differs. expected is the answer, or NULL where only the model tells it. */
 static int compare_call(struct run *r, const struct call *c, const adk_found *expected)
 {
-    r->agreed = agreed();
+    look_before(r, c);
     adk_found lib = c->kind->make(&library, c, memory[LIBRARY]);
     adk_found mdl = c->kind->make(&model, c, memory[OTHER]);
     if (expected != NULL && !same_answer(&lib, expected)) {
@@ -260,6 +427,7 @@ enum fault {
     FLAG,
     GUEST,
     VCPU,
+    OWNER,
     INPUT_UNREGISTERED,
     OUTPUT_UNREGISTERED,
     INPUT_SHORT,
@@ -276,6 +444,7 @@ static const adk_found FAULT_ANSWER[FAULTS] = {
     [FLAG] = { .r3 = 2, .r4 = 3 },
     [GUEST] = { .r3 = 3 },
     [VCPU] = { .r3 = 4 },
+    [OWNER] = { .r3 = 16 },
     [INPUT_UNREGISTERED] = { .r3 = 11, .r4 = 0 },
     [OUTPUT_UNREGISTERED] = { .r3 = 11, .r4 = 1 },
     [INPUT_SHORT] = { .r3 = 12, .r4 = 0 },
@@ -297,45 +466,120 @@ static void lend_two(struct call *c, enum piece piece, unsigned first, unsigned 
     lend(c, &g);
 }
 
-/* A run of vCPU 0 of guest 1, in the first slot, with these faults, each of which can be there beside the others. */
-static void faulty_run(struct call *c, unsigned faults)
+/* A store with vCPU 0 of guest 1 in the first slot, taken or not, and a call on it; with those of these faults that all
+   calls on a vCPU have. */
+static void lend_faulty(struct call *c, unsigned faults, bool taken)
 {
     uint8_t *s = memory[BEFORE][STORE];
     memset(s, 0, ADK_STORE_SIZE);
     s[LIVE] = 0x80;
     s[ZERO] = (faults & A(ILL_FORMED)) != 0;
     put_word(s, 0, word_of(1, 0));
+    put_mark(s, 0, taken);
+    c->len[STORE] = ADK_STORE_SIZE;
+    c->n[0] = faults & A(FLAG) ? ADK_BIT(3) : 0;
+    c->n[1] = faults & A(GUEST) ? 2 : 1;
+    c->n[2] = faults & A(VCPU) ? 1 : 0;
+}
+
+/* A run with these faults, each of which can be there beside the others. */
+static void faulty_run(struct call *c, unsigned faults)
+{
+    lend_faulty(c, faults, (faults & A(OWNER)) != 0);
     put_registered_size(0, 0x0C00, faults & A(INPUT_UNREGISTERED) ? 3 : 28);
     put_registered_size(0, 0x0C01, faults & A(OUTPUT_UNREGISTERED) ? 123 : 124);
     share(STORE, 0, ADK_STORE_SIZE);
     lend_two(c, INPUT, 0x1003, faults & A(INPUT_ELEMENT) ? 0x1054 : 0x1004);
     lend_two(c, EFFECT, 0x1003, faults & A(EFFECT_ELEMENT) ? 0x0C02 : 0xF000);
-    c->len[STORE] = ADK_STORE_SIZE;
     c->len[OUTPUT] = faults & A(OUTPUT_SHORT) ? 122 : 124;
     if (faults & A(INPUT_SHORT))
         c->len[INPUT] = 2;
     if (faults & A(EFFECT_LENGTH))
         c->len[EFFECT] = 3;
-    c->n[0] = faults & A(FLAG) ? ADK_BIT(3) : 0;
-    c->n[1] = faults & A(GUEST) ? 2 : 1;
-    c->n[2] = faults & A(VCPU) ? 1 : 0;
     c->n[3] = faults & A(EXIT) ? 0xC01 : 0xC00;
+}
+
+/* ---- And of get state, set state and the hand-overs ---- */
+
+/* Behind OWNER, with answers of their own: a length, and what the buffer holds, of which a take reads nothing. */
+enum { LENGTH = OWNER + 1, CONTENT, STATE_FAULTS };
+
+/* The faults that the call can have: guest-wide the vCPU is not looked at. */
+static unsigned faults_of(const struct kind *k)
+{
+    unsigned all = A(STATE_FAULTS) - 1;
+    if (k->hand == TAKING)
+        all &= ~A(CONTENT);
+    return k->wide ? all & ~(A(VCPU) | A(OWNER)) : all;
+}
+
+static adk_found state_answer(const struct kind *k, unsigned fault)
+{
+    if (fault == LENGTH)
+        return (adk_found){ .r3 = 5 };
+    if (fault == CONTENT)
+        return k->hand == GIVING ? (adk_found){ .r3 = 17 } : (adk_found){ .r3 = 6, .r4 = 1, .r5 = 16 };
+    return FAULT_ANSWER[fault];
+}
+
+/* The buffer holds a form of vCPU 0 without values, or two elements. */
+static void lend_content(struct call *c, bool bad)
+{
+    struct build g = begin_build(BUFFER, 0, false);
+    unsigned good = c->kind->wide ? 0x0004 : 0x1003;
+    if (c->kind->hand == NO_HAND) {
+        lend_two(c, BUFFER, good, bad ? 0x1054 : good);
+        return;
+    }
+    g.len = c->kind->hand == TAKING ? ADK_FORM_MAX : ADK_FORM_MIN;
+    memset(g.b, 0, g.len);
+    g.b[0] = bad ? 0x20 : 0x10;
+    lend(c, &g);
+}
+
+static void faulty_state(struct call *c, unsigned faults)
+{
+    bool taken = (faults & A(OWNER)) != 0;
+    lend_faulty(c, faults, c->kind->hand == GIVING ? !taken : taken);
+    share(STORE, 0, ADK_STORE_SIZE);
+    lend_content(c, (faults & A(CONTENT)) != 0);
+    if (faults & A(LENGTH))
+        c->len[BUFFER] = c->kind->hand == NO_HAND ? 3 : c->kind->hand == TAKING ? ADK_FORM_MAX - 1 : ADK_FORM_MIN - 1;
+    if (c->kind->wide)
+        c->n[0] |= ADK_GUEST_WIDE;
+    if (c->kind->hand != NO_HAND)
+        c->n[0] |= ADK_HAND_OVER;
+}
+
+/* ---- All of them ---- */
+
+/* One set; without a fault that the call can have it is accepted. */
+static int compare_faults(struct run *r, struct call *c, unsigned faults)
+{
+    bool run = is_run(c->kind);
+    unsigned first = 0, can = run ? A(FAULTS) - 1 : faults_of(c->kind);
+    adk_found answer = { .r3 = 0, .r4 = run ? 0xC00 : 0 };
+    while (first < FAULTS && !(faults & can & A(first)))
+        first++;
+    if (first < FAULTS)
+        answer = run ? FAULT_ANSWER[first] : state_answer(c->kind, first);
+    if (run)
+        faulty_run(c, faults);
+    else
+        faulty_state(c, faults);
+    r->number++;
+    return compare_call(r, c, &answer);
 }
 
 static int compare_order(struct run *r)
 {
-    const adk_found accepted = { .r3 = 0, .r4 = 0xC00 };
-    struct call c = { .kind = KINDS };
-    while (!is_run(c.kind))
-        c.kind++;
-    for (unsigned faults = 0; faults < A(FAULTS) && r->number < r->calls; faults++) {
-        unsigned first = 0;
-        while (first < FAULTS && !(faults & A(first)))
-            first++;
-        faulty_run(&c, faults);
-        r->number++;
-        if (compare_call(r, &c, first == FAULTS ? &accepted : &FAULT_ANSWER[first]) != 0)
-            return 1;
+    for (size_t k = 0; k < KIND_COUNT; k++) {
+        const struct kind *kind = &KINDS[k];
+        unsigned sets = is_run(kind) ? A(FAULTS) : kind->access != 0 || kind->hand != NO_HAND ? A(STATE_FAULTS) : 0;
+        struct call c = { .kind = kind };
+        for (unsigned faults = 0; faults < sets && r->number < r->calls; faults++)
+            if (compare_faults(r, &c, faults) != 0)
+                return 1;
     }
     return 0;
 }
@@ -360,9 +604,10 @@ static bool lengths_covered(const struct run *r, size_t k)
     bool all = true;
     if (KINDS[k].use[BUFFER] == NOT_LENT && !is_run(&KINDS[k]))
         return true;
-    for (size_t i = 0; i < COUNT(LENGTHS); i++)
+    const struct lengths *lengths = lengths_of(&KINDS[k]);
+    for (size_t i = 0; i < lengths->n; i++)
         if (!(r->lengths[k] & A(i))) {
-            printf("  %s never judged a length of %zu bytes\n", KINDS[k].name, LENGTHS[i]);
+            printf("  %s never judged a length of %zu bytes\n", KINDS[k].name, lengths->of[i]);
             all = false;
         }
     return all;
@@ -506,6 +751,35 @@ static bool bitmaps_covered(const struct run *r)
     return all;
 }
 
+static bool hand_overs_covered(const struct run *r)
+{
+    bool all = true;
+    for (unsigned way = 0; way < 2; way++)
+        for (unsigned e = 0; e < THREAD_ELEMENTS; e++)
+            for (unsigned present = 0; present < 2; present++)
+                if (!r->handed[way][e][present]) {
+                    printf("  no form %s had 0x%04X %s\n", way == 0 ? "taken" : "given back", thread_id(e),
+                           present ? "present" : "absent");
+                    all = false;
+                }
+    for (unsigned p = 0; p < PARTS; p++)
+        if (!r->wrong[p]) {
+            printf("  no form was refused for its %s alone\n", PART_NAME[p]);
+            all = false;
+        }
+    for (unsigned size = 4; size <= 16; size *= 2)
+        if (!r->zeros[size]) {
+            printf("  no form was refused for a value of %u zeros\n", size);
+            all = false;
+        }
+    for (unsigned i = 0; i < SCENES; i++)
+        if (!r->scenes[i]) {
+            printf("  never seen: %s\n", SCENE_NAME[i]);
+            all = false;
+        }
+    return all;
+}
+
 static int finish(const struct run *r)
 {
     if (!r->quiet)
@@ -520,6 +794,7 @@ static int finish(const struct run *r)
     all = runs_covered(r) && all;
     all = clocks_covered(r) && all;
     all = bitmaps_covered(r) && all;
+    all = hand_overs_covered(r) && all;
     printf("%s compare coverage\n", all ? "passed" : "failed");
     return all ? 0 : 1;
 }

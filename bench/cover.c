@@ -1,8 +1,9 @@
 /* cover.c: see cover.h. */
 #include "cover.h"
 
-const char *const WAY_NAME[WAYS] = { "set", "read", "effect", "returned" };
+const char *const WAY_NAME[WAYS] = { "set", "read", "effect", "returned", "taken", "given back" };
 const char *const JUDGED_NAME[JUDGED] = { "get_state", "set_state", "run input", "run effect" };
+const char *const HAND_NAME[HANDS] = { "taken", "given back" };
 
 /* ---- Counting ---- */
 
@@ -33,6 +34,19 @@ static void note_accepted(struct cover *v, enum judged j, enum piece p, enum way
         v->longest[j] = end;
 }
 
+/* Counts an accepted hand-over, by the form in the buffer. */
+static void note_handed(struct cover *v, int hand, enum way way)
+{
+    const uint8_t *form = memory[LIBRARY][BUFFER];
+    unsigned present = read_form(form).present;
+    struct handed *h = &v->handed[hand];
+    h->vcpus++;
+    h->empty += present == 0;
+    h->full += present == THREAD_ELEMENTS;
+    for (unsigned e = 0; e < THREAD_ELEMENTS; e++)
+        v->elements[way][thread_id(e)] += is_present(form, e);
+}
+
 void note_cover(struct cover *v, const struct call *c, const adk_found *f)
 {
     uint64_t end;
@@ -44,6 +58,10 @@ void note_cover(struct cover *v, const struct call *c, const adk_found *f)
         note_accepted(v, GET_BUFFER, BUFFER, GOT);
     if (c->kind->access == W)
         note_accepted(v, SET_BUFFER, BUFFER, SET);
+    if (c->kind->hand == TAKING)
+        note_handed(v, TAKEN_OVER, TAKEN);
+    if (c->kind->hand == GIVING)
+        note_handed(v, GIVEN_BACK, GIVEN);
     if (is_run(c->kind)) {
         note_accepted(v, RUN_INPUT, INPUT, SET);
         note_accepted(v, RUN_EFFECT_BUFFER, EFFECT, WROTE);
@@ -66,6 +84,11 @@ void add_cover(struct cover *to, const struct cover *from)
     for (int j = 0; j < JUDGED; j++)
         if (from->longest[j] > to->longest[j])
             to->longest[j] = from->longest[j];
+    for (int h = 0; h < HANDS; h++) {
+        to->handed[h].vcpus += from->handed[h].vcpus;
+        to->handed[h].empty += from->handed[h].empty;
+        to->handed[h].full += from->handed[h].full;
+    }
 }
 
 /* ---- Questions ---- */
@@ -76,6 +99,8 @@ bool can_be(enum way way, unsigned id)
     const struct row *row = row_of(id);
     if (way == RETURNED)
         return (id >= 0x1003 && id <= 0x100C) || id == 0x102D || (id >= 0xF000 && id <= 0xF003);
+    if (way == TAKEN || way == GIVEN)
+        return row != NULL && !row->wide;
     return row != NULL && (row->access & access[way]) != 0;
 }
 

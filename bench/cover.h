@@ -1,4 +1,4 @@
-/* cover.h: what a night covered: answers, elements, and accepted buffers that held nothing but NOPs. */
+/* cover.h: what a night covered: answers, elements, accepted buffers that held nothing but NOPs, and hand-overs. */
 #ifndef COVER_H
 #define COVER_H
 
@@ -8,19 +8,25 @@
 enum { ELEMENTS = 176 };
 
 /* How an element is covered: set by set state or a run's input, read by get state, written by a run's effect, returned
-   in a run's output. */
-enum way { SET, GOT, WROTE, RETURNED, WAYS };
+   in a run's output; with a value that is not zero, taken with its vCPU, and given back with it. */
+enum way { SET, GOT, WROTE, RETURNED, TAKEN, GIVEN, WAYS };
 
 /* The buffers that a call accepts or refuses. */
 enum judged { GET_BUFFER, SET_BUFFER, RUN_INPUT, RUN_EFFECT_BUFFER, JUDGED };
 
-extern const char *const WAY_NAME[WAYS], *const JUDGED_NAME[JUDGED];
+/* The hand-overs. */
+enum { TAKEN_OVER, GIVEN_BACK, HANDS };
+
+extern const char *const WAY_NAME[WAYS], *const JUDGED_NAME[JUDGED], *const HAND_NAME[HANDS];
 
 struct cover {
     uint64_t answers[KIND_COUNT][ANSWERS];
     uint64_t elements[WAYS][0x10000]; /* how often, by ID; the NOP is not counted */
     uint64_t accepted[JUDGED], only_nops[JUDGED];
     uint64_t longest[JUDGED]; /* bytes of the longest accepted one, to the end of its last counted element */
+    struct handed {
+        uint64_t vcpus, empty, full; /* how many; of these without any value, and with all */
+    } handed[HANDS];
 };
 
 /* Counts a call that was made on the library's side and answered so. */

@@ -56,6 +56,11 @@ static void rows_of_cover(FILE *to, const struct cover *v, struct manner manner)
         row(to, "buffers", JUDGED_NAME[j], "only NOPs", v->only_nops[j]);
         row(to, "buffers", JUDGED_NAME[j], "longest", v->longest[j]);
     }
+    for (int h = 0; h < HANDS; h++) {
+        row(to, "vCPUs", HAND_NAME[h], "all", v->handed[h].vcpus);
+        row(to, "vCPUs", HAND_NAME[h], "empty", v->handed[h].empty);
+        row(to, "vCPUs", HAND_NAME[h], "full", v->handed[h].full);
+    }
     for (enum way way = 0; way < WAYS; way++) {
         row(to, "worth", WAY_NAME[way], "covered", how_many(v, way, is_covered));
         row(to, "worth", WAY_NAME[way], "can be", how_many_can_be(way));

@@ -8,6 +8,7 @@
 enum { LAST_SLOT = ADK_SLOTS - 1, UNLISTED = 0x3040, SOME_NOPS = 20, MOST_NOPS = 16383 };
 
 static uint8_t full_store[ADK_STORE_SIZE];
+static uint8_t full_form[ADK_FORM_MAX];
 static bool longest_buffers;
 
 /* ---- A call that is accepted ---- */
@@ -25,7 +26,7 @@ static bool put_number(struct call *c, const char *name, uint64_t value)
 
 static void put_numbers(struct call *c)
 {
-    put_number(c, "flags", c->kind->wide ? ADK_GUEST_WIDE : 0);
+    put_number(c, "flags", c->kind->hand != NO_HAND ? ADK_HAND_OVER : c->kind->wide ? ADK_GUEST_WIDE : 0);
     put_number(c, "guest", GUEST);
     put_number(c, "vcpu", VCPU);
     put_number(c, "bitmap", agreed());
@@ -37,7 +38,13 @@ static void put_numbers(struct call *c)
 /* Whether the piece is a guest state buffer that the call walks. */
 static bool is_walked(const struct call *c, enum piece p)
 {
-    return c->kind->use[p] != NOT_LENT && p != STORE && p != OUTPUT;
+    return c->kind->use[p] != NOT_LENT && p != STORE && p != OUTPUT && c->kind->hand == NO_HAND;
+}
+
+/* Whether the lent length of the piece is judged: of a run's input what is registered counts. */
+static bool is_measured(const struct call *c, enum piece p)
+{
+    return (is_walked(c, p) && p != INPUT) || (c->kind->hand != NO_HAND && p == BUFFER);
 }
 
 /* What the call asks of the elements in a piece; a lookup asks nothing. */
@@ -60,8 +67,21 @@ static void end_input(const struct call *c)
     put_registered_size(LAST_SLOT, ADK_GSID_RUN_INPUT, c->len[INPUT]);
 }
 
+/* A vCPU with all 170 values is taken, or given back. */
+static void lend_form(struct call *c)
+{
+    memset(memory[BEFORE][STORE] + SLOT_VALUES + LAST_SLOT * SLOT_SIZE, 0xFF, SLOT_SIZE);
+    if (c->kind->hand == GIVING) {
+        put_mark(memory[BEFORE][STORE], LAST_SLOT, true);
+        memcpy(memory[BEFORE][BUFFER], full_form, sizeof full_form);
+    }
+    c->len[BUFFER] = longest_buffers ? ADK_BUFFER_MAX : ADK_FORM_MAX;
+}
+
 static void lend_buffers(struct call *c)
 {
+    if (c->kind->hand != NO_HAND)
+        lend_form(c);
     for (int p = 0; p < PIECES; p++) {
         struct build g = begin_build(p, access_in(c, p), c->kind->wide);
         if (!is_walked(c, p))
@@ -160,17 +180,38 @@ static bool create_again(struct call *c, enum piece p)
     return p == STORE;
 }
 
-/* Of a run's input what is registered counts, and not what is lent. */
+static bool turn_mark(struct call *c, enum piece p)
+{
+    (void)c;
+    if (p == STORE)
+        put_mark(memory[BEFORE][STORE], LAST_SLOT, !is_marked(LAST_SLOT));
+    return p == STORE;
+}
+
 static bool lend_one_too_many(struct call *c, enum piece p)
 {
     c->len[p] = ADK_BUFFER_MAX + 1;
-    return is_walked(c, p) && p != INPUT;
+    return is_measured(c, p);
 }
 
 static bool lend_one_too_few(struct call *c, enum piece p)
 {
-    c->len[p] = ADK_BUFFER_MIN - 1;
-    return is_walked(c, p) && p != INPUT;
+    static const size_t LEAST[] = { [NO_HAND] = ADK_BUFFER_MIN, [TAKING] = ADK_FORM_MAX, [GIVING] = ADK_FORM_MIN };
+    c->len[p] = LEAST[c->kind->hand] - 1;
+    return is_measured(c, p);
+}
+
+static bool spoil_version(struct call *c, enum piece p)
+{
+    memory[BEFORE][BUFFER][0] ^= 0x80;
+    return c->kind->hand == GIVING && p == BUFFER;
+}
+
+/* The last value, which is present, is all zero. */
+static bool spoil_last_value(struct call *c, enum piece p)
+{
+    memset(memory[BEFORE][BUFFER] + ADK_FORM_MAX - 8, 0, 8);
+    return c->kind->hand == GIVING && p == BUFFER;
 }
 
 /* A lookup judges neither IDs nor sizes. */
@@ -280,7 +321,7 @@ static const struct change {
     { ADK_BAD_VCPU, NULL, "vCPU 2048", "vcpu", ADK_VCPU_MAX + 1, NULL },
     { ADK_BAD_VCPU, NULL, "an absent vCPU", NULL, 0, name_absent },
     { ADK_BAD_LENGTH, NULL, "65,537 bytes", NULL, 0, lend_one_too_many },
-    { ADK_BAD_LENGTH, NULL, "3 bytes", NULL, 0, lend_one_too_few },
+    { ADK_BAD_LENGTH, NULL, "a byte less than the least", NULL, 0, lend_one_too_few },
     { ADK_INVALID_ELEMENT_ID, NULL, "the first ID", NULL, 0, spoil_first_id },
     { ADK_INVALID_ELEMENT_ID, NULL, "the last ID", NULL, 0, spoil_last_id },
     { ADK_INVALID_ELEMENT_ID, NULL, "an ID that is not there", "id", 0xFFFF, NULL },
@@ -293,6 +334,9 @@ static const struct change {
     { ADK_NOT_REGISTERED, NULL, "a size under the least", NULL, 0, register_too_little },
     { ADK_LENT_TOO_SHORT, NULL, "a byte less than registered", NULL, 0, lend_less_than_registered },
     { ADK_UNKNOWN_EXIT, NULL, "exit 0xC01", "exit_reason", ADK_EXIT_HCALL + 1, NULL },
+    { ADK_WRONG_OWNER, NULL, "the other mark", NULL, 0, turn_mark },
+    { ADK_BAD_FORM, NULL, "another version", NULL, 0, spoil_version },
+    { ADK_BAD_FORM, NULL, "a last value of zeros", NULL, 0, spoil_last_value },
     { ADK_CAPABILITIES_IN_USE, NULL, "another bitmap", "bitmap", ADK_CAP_POWER9, NULL },
 };
 
@@ -311,10 +355,19 @@ static void try_change(const struct kind *k, const struct change *d, enum piece 
     try(&c, answer, d->what);
 }
 
+/* The form of the vCPU in the last slot with all its values. */
+static bool fill_form(void)
+{
+    static uint8_t store[ADK_STORE_SIZE];
+    memcpy(store, full_store, sizeof store);
+    memset(store + SLOT_VALUES + LAST_SLOT * SLOT_SIZE, 0xFF, SLOT_SIZE);
+    return adk_get_state(store, sizeof store, ADK_HAND_OVER, GUEST, VCPU, full_form, sizeof full_form).r3 == ADK_OK;
+}
+
 bool each_case(bool longest, try_case *try)
 {
     longest_buffers = longest;
-    if (!fill_store(full_store))
+    if (!fill_store(full_store) || !fill_form())
         return false;
     for (const struct kind *k = KINDS; k < KINDS + KIND_COUNT; k++)
         for (const struct change *d = CHANGES; d < CHANGES + COUNT(CHANGES); d++) {

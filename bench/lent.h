@@ -26,10 +26,11 @@ enum {
     LIVE = 8,
     ZERO = 9,
     WORDS = 10,
-    HEADER = 42,
+    MARKS = 42,
+    HEADER = 44,
     GUEST_SIZE = 52,
     TB_OFFSET = 4,
-    SLOT_VALUES = 458,
+    SLOT_VALUES = 460,
     SLOT_SIZE = 1820
 };
 

@@ -1,25 +1,27 @@
 /*
- * model.c: the rules of document 01 in plain C, as the requests of 02 amend them. It shares no text with the library, so
- * that a mistake in either shows as a difference. Quoted names are sections of 01; L2, L4 and L12 are requests of 02.
+ * model.c: the rules of document 01 in plain C, as the requests of 02 amend them. It shares no text with the library,
+ * so that a mistake in either shows as a difference. Quoted names are sections of 01; L1, L2, L4 and L12 are requests
+ * of 02.
  */
 #include "model.h"
 
 #include <stdbool.h>
 #include <string.h>
 
-/* "The store": where the fields are. */
+/* "The store": where the fields are; L1 puts two bytes of marks behind the slot words, and values move by two. */
 enum {
-    STORE_SIZE = 29578,
+    STORE_SIZE = 29580,
     CAPABILITIES = 0,
     LIVE = 8,
     ZERO = 9,
     WORDS = 10,
     GUESTS = 8,
     SLOTS = 16,
-    GUEST_VALUES = 42,
+    MARKS = 42,
+    GUEST_VALUES = 44,
     GUEST_SIZE = 52,
     TB_OFFSET = 4,
-    SLOT_VALUES = 458,
+    SLOT_VALUES = 460,
     SLOT_SIZE = 1820,
     VCPU_MAX = 2047
 };
@@ -30,9 +32,10 @@ enum { USED = 0x8000, GUEST_SHIFT = 11, GUEST_MASK = 15 };
 /* "The store": offered are bits 1 and 2, 0x6000000000000000. */
 static const uint64_t OFFERED = UINT64_C(0x6000000000000000);
 
-/* "Answers", flag bits: bit 0, the most significant, is guest-wide in get and set state and all guests in delete; run
-   supports bits 0 to 2; the other calls none. */
+/* "Answers", flag bits: bit 0, the most significant, is guest-wide in get and set state and all guests in delete; L1:
+   bit 1 takes or gives back a vCPU in get and set state; run supports bits 0 to 2; the other calls none. */
 static const uint64_t BIT_0 = UINT64_C(0x8000000000000000);
+static const uint64_t BIT_1 = UINT64_C(0x4000000000000000);
 static const uint64_t BITS_0_TO_2 = UINT64_C(0xE000000000000000);
 
 /* "The store" and "The guest state buffer": numbers have their most significant byte first. */
@@ -102,6 +105,18 @@ static unsigned guest_of(unsigned w)
     return w >> GUEST_SHIFT & GUEST_MASK;
 }
 
+/* L1: the taken mark of a slot, a bit of two bytes, slot 0 the most significant. */
+static bool marked(const uint8_t *s, unsigned slot)
+{
+    return (load16(s + MARKS) >> (SLOTS - 1 - slot) & 1) != 0;
+}
+
+static void put_mark(uint8_t *s, unsigned slot, bool mark)
+{
+    unsigned bit = 1u << (SLOTS - 1 - slot), marks = load16(s + MARKS);
+    store16(s + MARKS, mark ? marks | bit : marks & ~bit);
+}
+
 /* How many of the words are w. */
 static unsigned times(const uint16_t *words, uint16_t w)
 {
@@ -111,7 +126,8 @@ static unsigned times(const uint16_t *words, uint16_t w)
     return n;
 }
 
-/* "The store", well formed: each used word names a live guest, no two the same pair, unused words zero. */
+/* "The store", well formed: each used word names a live guest, no two the same pair, unused words zero; L1: no mark on
+   an unused slot. */
 static bool words_well_formed(const uint8_t *s)
 {
     uint16_t words[SLOTS];
@@ -119,6 +135,8 @@ static bool words_well_formed(const uint8_t *s)
         words[slot] = (uint16_t)word(s, slot);
     for (unsigned slot = 0; slot < SLOTS; slot++) {
         uint16_t w = words[slot];
+        if (w == 0 && marked(s, slot))
+            return false;
         if (w != 0 && (!(w & USED) || !live(s, guest_of(w)) || times(words, w) != 1))
             return false;
     }
@@ -199,7 +217,8 @@ static unsigned slot_with(const uint8_t *s, unsigned w)
     return slot;
 }
 
-/* "Answers", create vCPU 1, 2, 3, 4, 10, 9. "The store": create takes the lowest free slot and zeroes its values. */
+/* "Answers", create vCPU 1, 2, 3, 4, 10, 9. "The store": create takes the lowest free slot and zeroes its values; L1:
+   it clears its mark. */
 adk_answer mdl_create_vcpu(uint8_t *store, size_t store_len, uint64_t flags, uint64_t guest, uint64_t vcpu)
 {
     if (!well_formed(store, store_len))
@@ -217,9 +236,13 @@ adk_answer mdl_create_vcpu(uint8_t *store, size_t store_len, uint64_t flags, uin
     if (slot == SLOTS)
         return answer(9, 0);
     store16(store + WORDS + 2 * slot, w);
+    put_mark(store, slot, false);
     memset(store + SLOT_VALUES + SLOT_SIZE * slot, 0, SLOT_SIZE);
     return answer(0, 0);
 }
+
+/* L1, the form of a vCPU's state: 24 to 1,844 bytes. Its 170 presence bits are bits 16 to 185, and six zeros follow. */
+enum { FORM_MIN = 24, FORM_MAX = 1844, VERSION = 1, PRESENCE = 16, ELEMENTS = 170, SIX_BITS = 0x3F };
 
 /*
  * "The guest state buffer", the list: R and W in each scope, as bits of one number. A call asks for one of them, since
@@ -353,12 +376,15 @@ static inline struct verdict first_bad(const uint8_t *buffer, size_t len, unsign
     return (struct verdict){ 0, 0, 0 };
 }
 
+/* Whose values a call is about: a guest's, those of a vCPU that is not taken, or of one that is (L1). */
+enum whose { GUESTS_OWN, KEPT, TAKEN };
+
 /*
- * "Answers", the tests 1, 2, 3 and 4 of get and set state and run; guest-wide the vCPU id is ignored. After 0, *values
- * is where in the store the guest's or the vCPU's values begin.
+ * "Answers", the tests 1, 2, 3 and 4 of get and set state and run; guest-wide the vCPU id is ignored. L1: 16 after 4,
+ * never guest-wide. After 0, *values is where in the store the guest's or the vCPU's values begin.
  */
-static adk_answer target(const uint8_t *s, size_t len, uint64_t bad_flags, bool wide, uint64_t guest, uint64_t vcpu,
-                         size_t *values)
+static adk_answer target(const uint8_t *s, size_t len, uint64_t bad_flags, enum whose whose, uint64_t guest,
+                         uint64_t vcpu, size_t *values)
 {
     if (!well_formed(s, len))
         return answer(1, 0);
@@ -367,12 +393,14 @@ static adk_answer target(const uint8_t *s, size_t len, uint64_t bad_flags, bool 
     if (!live(s, guest))
         return answer(3, 0);
     *values = GUEST_VALUES + GUEST_SIZE * (guest - 1);
-    if (!wide) {
+    if (whose != GUESTS_OWN) {
         if (vcpu > VCPU_MAX)
             return answer(4, 0);
         unsigned slot = slot_with(s, USED | (unsigned)guest << GUEST_SHIFT | (unsigned)vcpu);
         if (slot == SLOTS)
             return answer(4, 0);
+        if (marked(s, slot) != (whose == TAKEN))
+            return answer(16, 0);
         *values = SLOT_VALUES + SLOT_SIZE * slot;
     }
     return answer(0, 0);
@@ -384,11 +412,17 @@ static bool bad_length(size_t len)
     return len < 4 || len > 65536;
 }
 
+/* L1: get and set state support bit 0 alone or bit 1 alone; of both together bit 1 is the bad one. */
+static uint64_t bad_state_flags(uint64_t flags)
+{
+    return flags & ~((flags & BIT_0) != 0 ? BIT_0 : BIT_1);
+}
+
 /* "Answers", get and set state 1, 2, 3, 4, 5, then the elements; a good buffer's verdict is all zeros. */
 static inline adk_answer judge_state(const uint8_t *s, size_t len, uint64_t flags, uint64_t guest, uint64_t vcpu,
                                      const uint8_t *buffer, size_t buffer_len, unsigned wanted, size_t *values)
 {
-    adk_answer a = target(s, len, flags & ~BIT_0, flags != 0, guest, vcpu, values);
+    adk_answer a = target(s, len, bad_state_flags(flags), flags != 0 ? GUESTS_OWN : KEPT, guest, vcpu, values);
     if (a.r3 != 0)
         return a;
     if (bad_length(buffer_len))
@@ -413,7 +447,7 @@ static inline void copy(uint8_t *to, const uint8_t *from, unsigned size)
     }
 }
 
-/* "The guest state buffer": get writes the value bytes and nothing else. 0x0001 reads 1,820 and 0x0002 reads 124. */
+/* "The guest state buffer": get writes the value bytes and nothing else. 0x0001 reads 1,844 (L1), 0x0002 reads 124. */
 static void fill(uint8_t *buffer, const uint8_t *values)
 {
     uint8_t *p = buffer + 4;
@@ -423,7 +457,7 @@ static void fill(uint8_t *buffer, const uint8_t *values)
         struct element e = element(id);
         p += 4;
         if (id == VCPU_STATE_SIZE)
-            store64(p, 1820);
+            store64(p, FORM_MAX);
         else if (id == RUN_OUTPUT_SIZE)
             store64(p, 124);
         else
@@ -446,11 +480,151 @@ static void apply(uint8_t *values, const uint8_t *buffer)
     }
 }
 
+/* L1: whether thread element e is present in a form; and that it is. */
+static bool present(const uint8_t *form, unsigned e)
+{
+    unsigned bit = PRESENCE + e;
+    return (form[bit / 8] >> (7 - bit % 8) & 1) != 0;
+}
+
+static void put_present(uint8_t *form, unsigned e)
+{
+    unsigned bit = PRESENCE + e;
+    form[bit / 8] |= (uint8_t)(0x80 >> bit % 8);
+}
+
+/* "The store": the size of thread element e, from 0 to 169 in order of ID. They are in a slot without gaps. */
+static inline unsigned thread_size(unsigned e)
+{
+    if (e < 2)
+        return 16; /* 0x0C00, 0x0C01 */
+    if (e < 87)
+        return 8; /* 0x0C02, 0x1000 to 0x1053 */
+    if (e < 102)
+        return 4; /* 0x2000 to 0x200E */
+    if (e < 166)
+        return 16; /* 0x3000 to 0x303F */
+    return e == 167 || e == 168 ? 4 : 8; /* 0xF000 to 0xF003 */
+}
+
+static inline bool all_zero(const uint8_t *value, unsigned size)
+{
+    switch (size) {
+    case 4: return load32(value) == 0;
+    case 8: return load64(value) == 0;
+    default: return (load64(value) | load64(value + 8)) == 0;
+    }
+}
+
+/* L1, the form: version 1 (4 bits), vCPU id (11), a zero, 170 presence bits in order of ID, six zeros; then the values
+   that are not all zero, in that order. */
+static void write_form(uint8_t *form, unsigned vcpu, const uint8_t *values)
+{
+    uint8_t *p = form + FORM_MIN;
+    memset(form, 0, FORM_MIN);
+    store16(form, VERSION << 12 | vcpu << 1);
+    for (unsigned e = 0; e < ELEMENTS; e++) {
+        unsigned size = thread_size(e);
+        if (!all_zero(values, size)) {
+            put_present(form, e);
+            copy(p, values, size);
+            p += size;
+        }
+        values += size;
+    }
+}
+
+/* L1, 17: whether the bytes begin with a form of this vCPU. len is at least FORM_MIN. */
+static bool begins_with_form(const uint8_t *form, size_t len, uint64_t vcpu)
+{
+    size_t at = FORM_MIN;
+    if (form[0] >> 4 != VERSION)
+        return false;
+    if ((load16(form) >> 1 & VCPU_MAX) != vcpu)
+        return false;
+    if ((form[1] & 1) != 0)
+        return false;
+    if ((form[FORM_MIN - 1] & SIX_BITS) != 0)
+        return false;
+    for (unsigned e = 0; e < ELEMENTS; e++) {
+        unsigned size = thread_size(e);
+        if (!present(form, e))
+            continue;
+        if (len - at < size || all_zero(form + at, size))
+            return false;
+        at += size;
+    }
+    return true;
+}
+
+/* L1: the values of a form that was judged; those that are not present are zero. */
+static void read_form(uint8_t *values, const uint8_t *form)
+{
+    const uint8_t *p = form + FORM_MIN;
+    memset(values, 0, SLOT_SIZE);
+    for (unsigned e = 0; e < ELEMENTS; e++) {
+        unsigned size = thread_size(e);
+        if (present(form, e)) {
+            copy(values, p, size);
+            p += size;
+        }
+        values += size;
+    }
+}
+
+/* The slot whose values begin there. */
+static unsigned slot_at(size_t values)
+{
+    return (unsigned)((values - SLOT_VALUES) / SLOT_SIZE);
+}
+
+/* L1, taking: 1, 2, 3, 4, 16, 5. The form stands in the buffer's first bytes, the rest of it stays; the values are
+   zeroed. */
+static adk_answer take(uint8_t *s, size_t len, uint64_t flags, uint64_t guest, uint64_t vcpu, uint8_t *buffer,
+                       size_t buffer_len)
+{
+    size_t values;
+    adk_answer a = target(s, len, bad_state_flags(flags), KEPT, guest, vcpu, &values);
+    if (a.r3 != 0)
+        return a;
+    if (buffer_len < FORM_MAX || buffer_len > 65536)
+        return answer(5, 0);
+    write_form(buffer, (unsigned)vcpu, s + values);
+    memset(s + values, 0, SLOT_SIZE);
+    put_mark(s, slot_at(values), true);
+    return answer(0, 0);
+}
+
+/* L1, giving back: 1, 2, 3, 4, 16, 5, 17. Bytes behind the form are ignored. */
+static adk_answer give_back(uint8_t *s, size_t len, uint64_t flags, uint64_t guest, uint64_t vcpu,
+                            const uint8_t *buffer, size_t buffer_len)
+{
+    size_t values;
+    adk_answer a = target(s, len, bad_state_flags(flags), TAKEN, guest, vcpu, &values);
+    if (a.r3 != 0)
+        return a;
+    if (buffer_len < FORM_MIN || buffer_len > 65536)
+        return answer(5, 0);
+    if (!begins_with_form(buffer, buffer_len, vcpu))
+        return answer(17, 0);
+    read_form(s + values, buffer);
+    put_mark(s, slot_at(values), false);
+    return answer(0, 0);
+}
+
+/* L1: bit 1 without bit 0 hands over; what else is set is then the bad bit. */
+static bool hands_over(uint64_t flags)
+{
+    return (flags & (BIT_0 | BIT_1)) == BIT_1;
+}
+
 /* "Answers": a refusal changes no byte of any buffer, so all elements are judged before one is filled. */
-adk_answer mdl_get_state(const uint8_t *store, size_t store_len, uint64_t flags, uint64_t guest, uint64_t vcpu,
+adk_answer mdl_get_state(uint8_t *store, size_t store_len, uint64_t flags, uint64_t guest, uint64_t vcpu,
                          uint8_t *buffer, size_t buffer_len)
 {
     size_t values;
+    if (hands_over(flags))
+        return take(store, store_len, flags, guest, vcpu, buffer, buffer_len);
     adk_answer a = judge_state(store, store_len, flags, guest, vcpu, buffer, buffer_len,
                                flags != 0 ? GUEST_R : THREAD_R, &values);
     if (a.r3 == 0)
@@ -463,6 +637,8 @@ adk_answer mdl_set_state(uint8_t *store, size_t store_len, uint64_t flags, uint6
                          const uint8_t *buffer, size_t buffer_len)
 {
     size_t values;
+    if (hands_over(flags))
+        return give_back(store, store_len, flags, guest, vcpu, buffer, buffer_len);
     adk_answer a = judge_state(store, store_len, flags, guest, vcpu, buffer, buffer_len,
                                flags != 0 ? GUEST_W : THREAD_W, &values);
     if (a.r3 == 0)
@@ -539,15 +715,15 @@ static void write_output(uint8_t *output, const uint8_t *values, const struct ex
 }
 
 /*
- * "Answers", run 1, 2, 3, 4, 11, 12, the input's elements, 13, 14. "Run": the input is the first bytes of the lent one,
- * as many as registered; it is applied, then the effect, then the output's first bytes are written.
+ * "Answers", run 1, 2, 3, 4, 11, 12, the input's elements, 13, 14; L1: 16 after 4. "Run": the input is the first bytes
+ * of the lent one, as many as registered; it is applied, then the effect, then the output's first bytes are written.
  */
 adk_answer mdl_run_vcpu(uint8_t *store, size_t store_len, uint64_t flags, uint64_t guest, uint64_t vcpu,
                         const uint8_t *input, size_t input_len, uint8_t *output, size_t output_len,
                         const uint8_t *effect, size_t effect_len, uint64_t exit_reason)
 {
     size_t at;
-    adk_answer a = target(store, store_len, flags & ~BITS_0_TO_2, false, guest, vcpu, &at);
+    adk_answer a = target(store, store_len, flags & ~BITS_0_TO_2, KEPT, guest, vcpu, &at);
     if (a.r3 != 0)
         return a;
     uint8_t *values = store + at;
@@ -569,13 +745,15 @@ adk_answer mdl_run_vcpu(uint8_t *store, size_t store_len, uint64_t flags, uint64
     return answer(0, exit_reason);
 }
 
-/* "The store": delete clears the live bit and the slot words only. */
+/* "The store": delete clears the live bit and the slot words only; L1: and the marks of the slots that it drops. */
 static void drop_guest(uint8_t *s, unsigned guest)
 {
     s[LIVE] &= (uint8_t)~(1u << (GUESTS - guest));
     for (unsigned slot = 0; slot < SLOTS; slot++)
-        if (guest_of(word(s, slot)) == guest)
+        if (guest_of(word(s, slot)) == guest) {
             store16(s + WORDS + 2 * slot, 0);
+            put_mark(s, slot, false);
+        }
 }
 
 /* "Answers", others 1, 2, 3, and flag bits: delete bit 0 is all guests, and the id is then ignored. */
@@ -588,6 +766,7 @@ adk_answer mdl_delete_guest(uint8_t *store, size_t store_len, uint64_t flags, ui
     if (flags != 0) {
         store[LIVE] = 0;
         memset(store + WORDS, 0, 2 * SLOTS);
+        store16(store + MARKS, 0);
         return answer(0, 0);
     }
     if (!live(store, guest))

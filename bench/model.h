@@ -12,7 +12,7 @@ adk_answer mdl_get_capabilities(const uint8_t *store, size_t store_len, uint64_t
 adk_answer mdl_set_capabilities(uint8_t *store, size_t store_len, uint64_t flags, uint64_t bitmap);
 adk_answer mdl_create_guest(uint8_t *store, size_t store_len, uint64_t flags, uint64_t token);
 adk_answer mdl_create_vcpu(uint8_t *store, size_t store_len, uint64_t flags, uint64_t guest, uint64_t vcpu);
-adk_answer mdl_get_state(const uint8_t *store, size_t store_len, uint64_t flags, uint64_t guest, uint64_t vcpu,
+adk_answer mdl_get_state(uint8_t *store, size_t store_len, uint64_t flags, uint64_t guest, uint64_t vcpu,
                          uint8_t *buffer, size_t buffer_len);
 adk_answer mdl_set_state(uint8_t *store, size_t store_len, uint64_t flags, uint64_t guest, uint64_t vcpu,
                          const uint8_t *buffer, size_t buffer_len);

@@ -57,16 +57,29 @@ static unsigned slot_word(unsigned slot)
     return (unsigned)adk_read_be(memory[BEFORE][STORE] + WORDS + 2 * slot, 2);
 }
 
-/* A used slot word, or 0 where chance finds none. */
-static unsigned used_word(void)
+bool is_used(unsigned slot)
+{
+    return (slot_word(slot) & 0x8000) != 0;
+}
+
+bool is_marked(unsigned slot)
+{
+    return (adk_read_be(memory[BEFORE][STORE] + MARKS, 2) & 0x8000u >> slot) != 0;
+}
+
+/* The word of a slot that is so, from any slot on; 0 where there is none. */
+static unsigned word_where(bool (*is_so)(unsigned slot))
 {
     unsigned first = below(ADK_SLOTS);
-    for (unsigned i = 0; i < ADK_SLOTS; i++) {
-        unsigned w = slot_word((first + i) % ADK_SLOTS);
-        if (w & 0x8000)
-            return w;
-    }
+    for (unsigned i = 0; i < ADK_SLOTS; i++)
+        if (is_so((first + i) % ADK_SLOTS))
+            return slot_word((first + i) % ADK_SLOTS);
     return 0;
+}
+
+static unsigned used_word(void)
+{
+    return word_where(is_used);
 }
 
 static uint64_t live_guest(void)
@@ -98,8 +111,9 @@ static uint64_t any_vcpu(void)
     case 1: return alias(below(2048), 11);
     case 2: return ADK_VCPU_MAX + below(3) - 1;
     case 3: return alias(used_word() & 2047, 11);
-    case 4:
-    case 5: return below(3);
+    case 4: return used_word() & 2047; /* so that two guests have a vCPU with one id */
+    case 5:
+    case 6: return below(3);
     default: return below(2048);
     }
 }
@@ -147,7 +161,7 @@ static uint64_t any_token(void)
 }
 
 static const size_t WRONG_LENGTHS[] = {
-    0, 1, 2, 7, 8, 9, 10, 41, 42, 43, 457, 458, 459, ADK_STORE_SIZE / 2, ADK_STORE_SIZE - 1820, ADK_STORE_SIZE - 52,
+    0, 1, 2, 7, 8, 9, 10, 41, 42, 43, 44, 459, 460, 461, ADK_STORE_SIZE / 2, ADK_STORE_SIZE - 1820, ADK_STORE_SIZE - 52,
     ADK_STORE_SIZE - 2, ADK_STORE_SIZE - 1, ADK_STORE_SIZE + 1, ADK_STORE_SIZE + 2, ADK_STORE_SIZE + 1820, 32768, 65535,
     65536, STORE_CAPACITY
 };
@@ -276,10 +290,9 @@ static void choose_lookup(struct call *c)
     c->n[0] = percent(75) ? g.id[below(COUNT(g.id))] : any_id();
 }
 
-/* A vCPU that is there, or numbers close to one. */
-static void choose_vcpu(struct call *c)
+/* The vCPU of a slot word, or numbers close to one; any where the word is 0. */
+static void choose_vcpu_of(struct call *c, unsigned w)
 {
-    unsigned w = used_word();
     if (w == 0 || percent(12)) {
         c->n[1] = any_guest();
         c->n[2] = any_vcpu();
@@ -291,6 +304,20 @@ static void choose_vcpu(struct call *c)
         c->n[1] = alias(c->n[1], 4);
     if (percent(3))
         c->n[2] = alias(c->n[2], 11);
+}
+
+/* A vCPU that is there. */
+static void choose_vcpu(struct call *c)
+{
+    choose_vcpu_of(c, used_word());
+}
+
+/* Of a taken vCPU the buffer is not looked at; that shows where it is too short. */
+static void shorten_if_taken(struct call *c)
+{
+    unsigned slot = slot_of(c);
+    if (!c->kind->wide && slot < ADK_SLOTS && is_marked(slot) && percent(15))
+        c->len[BUFFER] = below(4);
 }
 
 static struct call last_state;
@@ -319,10 +346,108 @@ static void choose_state(struct call *c)
         if (c->kind->wide && percent(50))
             c->n[2] = any_number();
     }
-    c->n[0] = any_flags(0) & ~ADK_GUEST_WIDE;
+    shorten_if_taken(c);
+    c->n[0] = any_flags(0) & ~c->kind->supported;
     if (c->kind->wide)
-        c->n[0] |= ADK_GUEST_WIDE;
+        c->n[0] |= ADK_GUEST_WIDE | (percent(2) ? ADK_HAND_OVER : 0);
     last_state = *c;
+}
+
+/* ---- A vCPU handed over ---- */
+
+/* The forms that were taken last, by slot, to be given back. */
+static struct kept {
+    uint64_t guest, vcpu;
+    size_t len; /* 0: none */
+    uint8_t bytes[ADK_FORM_MAX];
+} kept[ADK_SLOTS];
+
+/* The last call, if it is a take of a vCPU that is not taken. */
+static struct call take_made;
+
+/* Keeps the form that the last call took, if it was accepted: then the mark is there. */
+static void keep_form(void)
+{
+    unsigned slot = slot_of(&take_made);
+    if (take_made.kind != NULL && slot < ADK_SLOTS && is_marked(slot)) {
+        const uint8_t *form = memory[BEFORE][BUFFER];
+        struct kept *k = &kept[slot];
+        *k = (struct kept){ take_made.n[1], take_made.n[2], read_form(form).len, { 0 } };
+        memcpy(k->bytes, form, k->len);
+    }
+    take_made.kind = NULL;
+}
+
+/* Bit 1, and at times other bits, which are bad beside it; bit 0 would make the call guest-wide. */
+static uint64_t hand_over_flags(void)
+{
+    return ADK_HAND_OVER | (any_flags(0) & ~ADK_GUEST_WIDE);
+}
+
+/* Around the least length, and around the greatest. */
+static size_t any_hand_over_length(void)
+{
+    static const size_t edges[] = { 0, 4, ADK_FORM_MIN - 1, ADK_FORM_MIN, ADK_FORM_MAX - 1, ADK_FORM_MAX };
+    if (percent(5))
+        return ADK_BUFFER_MAX - 1 + below(4);
+    return percent(80) ? edges[below(COUNT(edges))] : below(ADK_FORM_MAX);
+}
+
+static void choose_take(struct call *c)
+{
+    lend_store(c);
+    choose_vcpu(c);
+    c->n[0] = hand_over_flags();
+    c->len[BUFFER] = ADK_FORM_MAX + (percent(40) ? 0 : below(200));
+    if (percent(25))
+        c->len[BUFFER] = percent(40) ? ADK_FORM_MAX - 1 : any_hand_over_length();
+    unsigned slot = slot_of(c);
+    if (slot < ADK_SLOTS && !is_marked(slot))
+        take_made = *c;
+}
+
+/* The form that was taken of the vCPU, of another guest's vCPU with its id, or of any; NULL if there is none such. */
+static const struct kept *any_kept(const struct call *c)
+{
+    unsigned first = below(ADK_SLOTS), way = below(10);
+    for (unsigned i = 0; i < ADK_SLOTS; i++) {
+        const struct kept *k = &kept[(first + i) % ADK_SLOTS];
+        bool guest = k->guest == c->n[1], vcpu = k->vcpu == c->n[2];
+        if (k->len != 0 && (way < 7 ? guest && vcpu : way < 9 ? !guest && vcpu : true))
+            return k;
+    }
+    return NULL;
+}
+
+/* Lends a form as it is, with bytes behind it, or any bytes at an edge of the length. */
+static void lend_form(struct call *c, struct build *g)
+{
+    size_t len = any_hand_over_length();
+    if (percent(20))
+        g->len += percent(50) ? 1 + below(8) : below(200);
+    else if (percent(20) && (len >= g->len || percent(30)))
+        g->len = len;
+    lend(c, g);
+}
+
+/* Mostly of a taken vCPU: a form that was taken, or one that is built; as it is, or with a part damaged. */
+static void choose_give(struct call *c)
+{
+    struct build g = begin_build(BUFFER, 0, false);
+    unsigned w = percent(85) ? word_where(is_marked) : 0;
+    lend_store(c);
+    choose_vcpu_of(c, w != 0 ? w : used_word());
+    c->n[0] = hand_over_flags();
+    const struct kept *k = percent(70) ? any_kept(c) : NULL;
+    if (k != NULL)
+        build_copy(&g, k->bytes, k->len);
+    else
+        build_form(&g, (unsigned)c->n[2] & ADK_VCPU_MAX);
+    if (percent(35))
+        damage_part(&g, below(PARTS));
+    else if (percent(5))
+        flip_bit(g.b, ADK_FORM_MIN);
+    lend_form(c, &g);
 }
 
 /* ---- What a run is given ---- */
@@ -491,6 +616,19 @@ static void word_unused(uint8_t *h)
     put_word(h, slot, w);
 }
 
+void put_mark(uint8_t *h, unsigned slot, bool mark)
+{
+    unsigned bit = 0x8000u >> slot, marks = (unsigned)adk_read_be(h + MARKS, 2);
+    adk_write_be(h + MARKS, 2, mark ? marks | bit : marks & ~bit);
+}
+
+/* A mark more or less: on a slot that is not used it is wrong. */
+static void turn_mark(uint8_t *h)
+{
+    unsigned slot = below(ADK_SLOTS);
+    put_mark(h, slot, !is_marked(slot));
+}
+
 /* All guests live and all slots used: well formed, or with one pair twice. */
 static void full_house(uint8_t *h)
 {
@@ -515,7 +653,7 @@ static void capabilities_wrong(uint8_t *h)
 /* Some of these leave the store well formed, and then the call must go through. */
 static void damage_header(uint8_t *h)
 {
-    switch (below(12)) {
+    switch (below(13)) {
     case 0: any_bytes(h, HEADER); break;
     case 1: any_bytes(h + below(HEADER), 1); break;
     case 2: flip_bit(h, HEADER); flip_bit(h, HEADER); break;
@@ -526,6 +664,7 @@ static void damage_header(uint8_t *h)
     case 7: capabilities_wrong(h); break;
     case 8: h[LIVE] = (uint8_t)(percent(50) ? below(256) : h[LIVE] & ~(1u << below(8))); break;
     case 9: full_house(h); break;
+    case 10: turn_mark(h); break;
     default: flip_bit(h, HEADER); break;
     }
 }
@@ -573,10 +712,22 @@ static void set_tb_offset(void)
     share(STORE, at, 8);
 }
 
+/* A vCPU becomes taken or is no longer: value bytes are free, so one that is taken may have values. */
+static void turn_used_mark(void)
+{
+    unsigned slot = below(ADK_SLOTS);
+    if (!is_used(slot))
+        return;
+    put_mark(memory[BEFORE][STORE], slot, !is_marked(slot));
+    share(STORE, MARKS, 2);
+}
+
 /* What happens to a store that is lent between two calls. */
 static void touch_store(void)
 {
     damage_or_repair();
+    if (percent(1) && damaged_for == 0)
+        turn_used_mark();
     if (percent(4))
         stir_values();
     if (percent(4))
@@ -587,6 +738,7 @@ static void touch_store(void)
 
 #define ON(name) .choose = choose_##name, .make = make_##name
 #define STATE(name) .choose = choose_state, .make = make_##name
+#define STATE_FLAGS (ADK_GUEST_WIDE | ADK_HAND_OVER)
 
 /* The first is the one that an episode begins with. */
 const struct kind KINDS[] = {
@@ -601,23 +753,29 @@ const struct kind KINDS[] = {
       .weight = { 60, 40, 15 }, .answers = A(0) | A(1) | A(2) | A(3) | A(4) | A(10) | A(9) },
     { "get_state thread", STATE(get_state), .number = { "flags", "guest", "vcpu" },
       .use = { [STORE] = READ, [BUFFER] = WRITTEN }, .weight = { 50, 60, 20 },
-      .answers = A(0) | A(1) | A(2) | A(3) | A(4) | A(5) | A(6) | A(7), .both = A(6) | A(7),
-      .supported = ADK_GUEST_WIDE, .access = R, .wide = false },
+      .answers = A(0) | A(1) | A(2) | A(3) | A(4) | A(16) | A(5) | A(6) | A(7), .both = A(6) | A(7),
+      .supported = STATE_FLAGS, .access = R, .wide = false },
     { "get_state wide", STATE(get_state), .number = { "flags", "guest", "vcpu" },
       .use = { [STORE] = READ, [BUFFER] = WRITTEN }, .weight = { 25, 30, 15 },
       .answers = A(0) | A(1) | A(2) | A(3) | A(5) | A(6) | A(7), .both = A(6) | A(7),
       .supported = ADK_GUEST_WIDE, .access = R, .wide = true },
+    { "get_state taking", .choose = choose_take, .make = make_get_state, .number = { "flags", "guest", "vcpu" },
+      .use = { [STORE] = WRITTEN, [BUFFER] = WRITTEN }, .weight = { 12, 15, 5 },
+      .answers = A(0) | A(1) | A(2) | A(3) | A(4) | A(16) | A(5), .supported = STATE_FLAGS, .hand = TAKING },
     { "set_state thread", STATE(set_state), .number = { "flags", "guest", "vcpu" },
       .use = { [STORE] = WRITTEN, [BUFFER] = READ }, .weight = { 70, 90, 30 },
-      .answers = A(0) | A(1) | A(2) | A(3) | A(4) | A(5) | A(6) | A(7) | A(8), .both = A(6) | A(7) | A(8),
-      .supported = ADK_GUEST_WIDE, .access = W, .wide = false },
+      .answers = A(0) | A(1) | A(2) | A(3) | A(4) | A(16) | A(5) | A(6) | A(7) | A(8), .both = A(6) | A(7) | A(8),
+      .supported = STATE_FLAGS, .access = W, .wide = false },
     { "set_state wide", STATE(set_state), .number = { "flags", "guest", "vcpu" },
       .use = { [STORE] = WRITTEN, [BUFFER] = READ }, .weight = { 40, 50, 25 },
       .answers = A(0) | A(1) | A(2) | A(3) | A(5) | A(6) | A(7) | A(8), .both = A(6) | A(7) | A(8),
       .supported = ADK_GUEST_WIDE, .access = W, .wide = true },
+    { "set_state giving", .choose = choose_give, .make = make_set_state, .number = { "flags", "guest", "vcpu" },
+      .use = { [STORE] = WRITTEN, [BUFFER] = READ }, .weight = { 80, 104, 40 },
+      .answers = A(0) | A(1) | A(2) | A(3) | A(4) | A(16) | A(5) | A(17), .supported = STATE_FLAGS, .hand = GIVING },
     { "run_vcpu", ON(run_vcpu), .number = { "flags", "guest", "vcpu", "exit_reason" },
       .use = { [STORE] = WRITTEN, [INPUT] = READ, [OUTPUT] = WRITTEN, [EFFECT] = READ }, .weight = { 130, 170, 50 },
-      .answers = A(0) | A(1) | A(2) | A(3) | A(4) | A(6) | A(7) | A(11) | A(12) | A(13) | A(14),
+      .answers = A(0) | A(1) | A(2) | A(3) | A(4) | A(16) | A(6) | A(7) | A(11) | A(12) | A(13) | A(14),
       .both = A(11) | A(12) | A(14), .supported = RUN_FLAGS },
     { "delete_guest", ON(delete_guest), .number = { "flags", "guest" }, .use = { [STORE] = WRITTEN },
       .weight = { 3, 15, 40 }, .answers = A(0) | A(1) | A(2) | A(3), .supported = ADK_DELETE_ALL },
@@ -645,6 +803,11 @@ bool is_clock(const struct kind *k)
     return k->make == make_guest_clock;
 }
 
+bool is_delete(const struct kind *k)
+{
+    return k->make == make_delete_guest;
+}
+
 bool sets_capabilities(const struct kind *k)
 {
     return k->make == make_set_capabilities;
@@ -659,9 +822,14 @@ bool can_answer(const struct kind *k, int answer, struct manner m)
 static unsigned mood;
 
 /* What is agreed stays while a guest lives. So it is mostly changed while none does: then guests come to live with each
-   set of capabilities, and both logical PVRs are set. */
+   set of capabilities, and both logical PVRs are set. A vCPU is mostly given back while one is taken. A night of NOPs
+   hands no values over. */
 static unsigned weight_of(const struct kind *k)
 {
+    if (k->hand != NO_HAND && manner.only_nops)
+        return 0;
+    if (k->hand == GIVING)
+        return adk_read_be(memory[BEFORE][STORE] + MARKS, 2) != 0 ? k->weight[mood] : k->weight[mood] / 16;
     bool may_change = sets_capabilities(k) && memory[BEFORE][STORE][LIVE] == 0;
     return may_change ? 4 * k->weight[mood] : k->weight[mood];
 }
@@ -683,7 +851,8 @@ void begin_night(struct manner m)
     manner = m;
     mood = 0;
     damaged_for = 0;
-    last_state = (struct call){ 0 };
+    last_state = take_made = (struct call){ 0 };
+    memset(kept, 0, sizeof kept);
     memset(memory[BEFORE][STORE], 0, ADK_STORE_SIZE);
     share(STORE, 0, ADK_STORE_SIZE);
 }
@@ -692,6 +861,7 @@ struct call next_call(uint64_t number)
 {
     if (number % 256 == 0)
         mood = below(MOODS);
+    keep_form();
     if (!manner.opaque)
         touch_store();
     struct call c = { manner.opaque && number == 1 ? KINDS : any_kind(), { 0 }, { 0 } };

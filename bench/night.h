@@ -9,13 +9,16 @@
 #ifndef NIGHT_H
 #define NIGHT_H
 
-#include "gsb.h"
+#include "form.h"
 #include "l0.h"
 
-/* Answers are 0 to 21; no call of a night gives 15 to 20. */
-enum { NUMBERS = 4, MOODS = 3, ANSWERS = 22, KIND_COUNT = 13, EXIT_COUNT = 7, NO_EXIT_COUNT = 34 };
+/* Answers are 0 to 21; no call of a night gives 15 or 18 to 20. */
+enum { NUMBERS = 4, MOODS = 3, ANSWERS = 22, KIND_COUNT = 15, EXIT_COUNT = 7, NO_EXIT_COUNT = 34 };
 enum { TIMEBASE_COUNT = 11 };
 enum use { NOT_LENT, READ, WRITTEN };
+
+/* The hand-overs of a vCPU: get state takes it, set state gives it back. */
+enum hand { NO_HAND, TAKING, GIVING };
 
 #define A(n) (1u << (n))
 
@@ -25,7 +28,7 @@ struct call {
     uint64_t n[NUMBERS];
 };
 
-/* Get and set state have a row for each scope, so that the answers of each are counted. */
+/* Get and set state have a row for each scope and one for the hand-over, so that the answers of each are counted. */
 extern const struct kind {
     const char *name;
     const char *number[NUMBERS];
@@ -38,6 +41,7 @@ extern const struct kind {
     adk_found (*make)(const struct l0 *on, const struct call *c, uint8_t *const *m);
     unsigned access; /* of get and set state: what they ask of an element, R or W, and its scope */
     bool wide;
+    enum hand hand; /* a get or set state that asks for no elements */
 } KINDS[KIND_COUNT];
 
 bool is_run(const struct kind *k);
@@ -45,6 +49,7 @@ bool is_run(const struct kind *k);
 /* L4: whether an answer of the call tells a bad element's index and offset. A lookup's 6 has none: it tells the count. */
 bool tells_place(const struct kind *k, uint64_t answer);
 bool is_clock(const struct kind *k);
+bool is_delete(const struct kind *k);
 bool sets_capabilities(const struct kind *k);
 
 /* Exit reasons; and numbers close to one, other interrupts, and exit reasons where only the low or the high bits are
@@ -84,6 +89,11 @@ void put_word(uint8_t *header, unsigned slot, unsigned word);
 
 /* The slot of the vCPU that the call names, or ADK_SLOTS. */
 unsigned slot_of(const struct call *c);
+
+/* Whether the slot is used, and whether its vCPU is taken. */
+bool is_used(unsigned slot);
+bool is_marked(unsigned slot);
+void put_mark(uint8_t *header, unsigned slot, bool mark);
 
 /* The TB offset of a guest, from 1 to ADK_GUESTS. */
 uint64_t tb_offset(uint64_t guest);

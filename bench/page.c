@@ -38,7 +38,7 @@ static const char *const STYLE[] = {
     ".cell{border:1px solid #d0d7de;border-radius:3px;padding:2px 3px 3px;min-width:0;background:#fff}",
     ".cell.bad{border-color:#b42318;background:#fdeeee}",
     ".cell span{display:block;font-size:8.5px;line-height:1.25;white-space:nowrap;overflow:hidden;",
-    "text-overflow:ellipsis}.ways{display:grid;grid-template-columns:repeat(4,1fr);gap:1px;margin-top:1px}",
+    "text-overflow:ellipsis}.ways{display:grid;grid-template-columns:repeat(6,1fr);gap:1px;margin-top:1px}",
     "i{display:block;height:7px;border-radius:1px;border:1px solid transparent}",
     "i.yes{background:#1a7f42}i.missed{background:#fff;border-color:#b42318}i.cannot{background:#e9edf0}",
     ".wide{grid-column:span 2}",
@@ -271,7 +271,8 @@ static void put_ways(FILE *to, const struct cover *v)
     }
     fputs("</table>\n<p class=\"key\"><span><i class=\"yes\"></i>covered</span><span><i class=\"missed\"></i>missed"
           "</span><span><i class=\"cannot\"></i>cannot be covered</span><span>In each cell from the left: set (by set "
-          "state or a run's input), read, written by an effect, returned by a run.</span></p>\n", to);
+          "state or a run's input), read, written by an effect, returned by a run, taken with its vCPU, given back."
+          "</span></p>\n", to);
 }
 
 static void put_element(FILE *to, const struct cover *v, unsigned id)
@@ -337,6 +338,20 @@ static void put_buffers(FILE *to, const struct cover *v)
     fputs(" accepted buffers held nothing but NOPs.</p>\n", to);
 }
 
+static void put_handed(FILE *to, const struct cover *v)
+{
+    fputs("<h2>vCPUs handed over</h2>\n<table class=\"half\"><tr><th>vCPUs</th><th class=\"n\">All</th>"
+          "<th class=\"n\">Without a value</th><th class=\"n\">With all 170</th></tr>\n", to);
+    for (int h = 0; h < HANDS; h++) {
+        fprintf(to, "<tr class=\"handed\"><td>%s</td>", HAND_NAME[h]);
+        put_cell(to, v->handed[h].vcpus);
+        put_cell(to, v->handed[h].empty);
+        put_cell(to, v->handed[h].full);
+        fputs("</tr>\n", to);
+    }
+    fputs("</table>\n", to);
+}
+
 /* ---- The page ---- */
 
 void page_score(FILE *to, const struct result *r)
@@ -347,6 +362,7 @@ void page_score(FILE *to, const struct result *r)
     put_disagreements(to, r);
     put_elements(to, v);
     put_buffers(to, v);
+    put_handed(to, v);
     put_answers(to, v, r->order->manner);
     put_told(to, r->figures);
     fputs("<div class=\"sign\"><div>Inspector</div><div>Date</div><div>Signature</div></div>\n</body></html>\n", to);

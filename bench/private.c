@@ -42,7 +42,7 @@ adk_answer adk_create_vcpu(uint8_t *store, size_t store_len, uint64_t flags, uin
     return mdl_create_vcpu(OWN, flags, guest, vcpu);
 }
 
-adk_answer adk_get_state(const uint8_t *store, size_t store_len, uint64_t flags, uint64_t guest, uint64_t vcpu,
+adk_answer adk_get_state(uint8_t *store, size_t store_len, uint64_t flags, uint64_t guest, uint64_t vcpu,
                          uint8_t *buffer, size_t buffer_len)
 {
     LENT;

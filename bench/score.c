@@ -11,7 +11,8 @@
  * after a disagreement in what is kept the next episode begins.
  *
  * The first disagreement of each kind is told in full. Then follow how often each call gave each answer, which elements
- * the night covered, how many accepted buffers held nothing but NOPs, and the lines that sum it up.
+ * the night covered, how many accepted buffers held nothing but NOPs, how many vCPUs were handed over, and the lines
+ * that sum it up.
  */
 #define _GNU_SOURCE
 
@@ -132,8 +133,8 @@ static int make_score(struct result *r, struct figures *figures, FILE *page)
         csv_score(stdout, r);
     else
         print_score(stdout, r);
-    bool written = write_page(page, r);
-    return arrived(stdout, "standard output") && written ? (int)r->verdict : UNFIT;
+    bool told = arrived(stdout, "standard output"); /* first, so that no message stands amid the score */
+    return write_page(page, r) && told ? (int)r->verdict : UNFIT;
 }
 
 int main(int argc, char **argv)

@@ -76,7 +76,7 @@ static adk_answer on_create_guest(uint8_t *s, size_t n, uint64_t flags, uint64_t
 static adk_answer on_create_vcpu(uint8_t *s, size_t n, uint64_t flags, uint64_t guest, uint64_t vcpu)
     SHALLOW(adk_answer, create_vcpu, AT(s), n, flags, guest, vcpu)
 
-static adk_answer on_get_state(const uint8_t *s, size_t n, uint64_t flags, uint64_t guest, uint64_t vcpu, uint8_t *b,
+static adk_answer on_get_state(uint8_t *s, size_t n, uint64_t flags, uint64_t guest, uint64_t vcpu, uint8_t *b,
                                size_t len)
     SHALLOW(adk_answer, get_state, AT(s), n, flags, guest, vcpu, AT(b), len)
 

@@ -80,8 +80,10 @@ static void print_place(FILE *to, size_t at)
         fprintf(to, " (capabilities)");
     else if (at < WORDS)
         fprintf(to, " (%s)", at == LIVE ? "live guests" : "zero byte");
-    else if (at < HEADER)
+    else if (at < MARKS)
         fprintf(to, " (word of slot %zu)", (at - WORDS) / 2);
+    else if (at < HEADER)
+        fprintf(to, " (marks of slots %zu to %zu)", 8 * (at - MARKS), 8 * (at - MARKS) + 7);
     else if (at < SLOT_VALUES)
         fprintf(to, " (guest %zu, 0x%04X)", in_guests / GUEST_SIZE + 1, element_at(in_guests % GUEST_SIZE, true));
     else if (at < ADK_STORE_SIZE)
@@ -210,23 +212,103 @@ static void print_elements(const struct telling *t, enum piece p, enum side s, c
     print_walk_end(t->to, &r);
 }
 
+/* ---- The form of a vCPU that is handed over ---- */
+
+static void print_value(FILE *to, const uint8_t *form, size_t len, unsigned element)
+{
+    const uint8_t *value = value_in(form, len, element);
+    if (value == NULL)
+        fprintf(to, is_present(form, element) ? "cut off" : "absent");
+    for (unsigned i = 0; value != NULL && i < thread_size(element); i++)
+        fprintf(to, "%02X", value[i]);
+}
+
+/* What the bytes of one side say as a form, and what is wrong with it. */
+static void print_form(FILE *to, const struct call *c, enum side s, const char *who)
+{
+    const uint8_t *b = memory[s][BUFFER];
+    size_t len = c->len[BUFFER];
+    if (len < ADK_FORM_MIN) {
+        fprintf(to, "    %s too short for a form\n", who);
+        return;
+    }
+    struct form f = read_form(b);
+    unsigned wrong = wrong_parts(b, len, (unsigned)c->n[2]);
+    fprintf(to, "    %s version %u, vCPU id %u, %u of %d present, form of %zu bytes", who, f.version, f.vcpu, f.present,
+            THREAD_ELEMENTS, f.len);
+    for (unsigned p = 0; p < PARTS; p++)
+        if (wrong & A(p))
+            fprintf(to, "%s %s", wrong & (A(p) - 1) ? "," : "; wrong:", PART_NAME[p]);
+    fprintf(to, "\n");
+}
+
+/* The first element in which the forms of both sides differ. */
+static void print_first_differing(const struct telling *t)
+{
+    const uint8_t *ours = memory[LIBRARY][BUFFER], *theirs = memory[OTHER][BUFFER];
+    size_t len = t->call->len[BUFFER];
+    char name[ADK_NAME_SIZE];
+    for (unsigned e = 0; len >= ADK_FORM_MIN && e < THREAD_ELEMENTS; e++) {
+        const uint8_t *a = value_in(ours, len, e), *b = value_in(theirs, len, e);
+        bool same = a == NULL || b == NULL ? a == b : memcmp(a, b, thread_size(e)) == 0;
+        if (same && is_present(ours, e) == is_present(theirs, e))
+            continue;
+        fprintf(t->to, "    first element that differs: 0x%04X %s, library ", thread_id(e),
+                adk_element_name((uint16_t)thread_id(e), name));
+        print_value(t->to, ours, len, e);
+        fprintf(t->to, ", %s ", t->other);
+        print_value(t->to, theirs, len, e);
+        fprintf(t->to, "\n");
+        return;
+    }
+    fprintf(t->to, "    the same elements with the same values\n");
+}
+
+/* Of one that is given back the bytes before the call; of one that is taken what each side made of them. */
+static void print_handed_over(const struct telling *t)
+{
+    const struct call *c = t->call;
+    bool ours = t->ours->r3 == ADK_OK, theirs = t->theirs != NULL && t->theirs->r3 == ADK_OK;
+    char other[32];
+    snprintf(other, sizeof other, "%s:", t->other);
+    fprintf(t->to, "  buffer of %zu bytes\n", c->len[BUFFER]);
+    if (c->kind->hand == GIVING) {
+        print_form(t->to, c, BEFORE, "given:");
+        return;
+    }
+    if (ours)
+        print_form(t->to, c, LIBRARY, "library:");
+    if (theirs)
+        print_form(t->to, c, OTHER, other);
+    if (ours && theirs)
+        print_first_differing(t);
+}
+
+/* ---- All that was lent ---- */
+
+static void print_buffer(const struct telling *t, enum piece p)
+{
+    const struct call *c = t->call;
+    if (p == OUTPUT)
+        fprintf(t->to, "  output of %zu bytes\n", c->len[p]);
+    else
+        print_elements(t, p, BEFORE, "before the call");
+    if (t->theirs != NULL && (!same_bytes(p, LIBRARY, BEFORE, c->len[p]) || !same_bytes(p, OTHER, BEFORE, c->len[p])))
+        print_elements(t, p, LIBRARY, "after the call");
+}
+
 void print_lent(const struct telling *t, size_t store_bytes)
 {
     const struct call *c = t->call;
     for (int p = 0; p < PIECES; p++) {
         if (c->kind->use[p] == NOT_LENT)
             continue;
-        if (p == STORE) {
+        if (p == STORE)
             print_piece(t->to, c, p, store_bytes);
-            continue;
-        }
-        if (p == OUTPUT)
-            fprintf(t->to, "  output of %zu bytes\n", c->len[p]);
+        else if (c->kind->hand != NO_HAND)
+            print_handed_over(t);
         else
-            print_elements(t, p, BEFORE, "before the call");
-        if (t->theirs != NULL &&
-            (!same_bytes(p, LIBRARY, BEFORE, c->len[p]) || !same_bytes(p, OTHER, BEFORE, c->len[p])))
-            print_elements(t, p, LIBRARY, "after the call");
+            print_buffer(t, p);
     }
 }
 

@@ -76,6 +76,14 @@ static void print_buffers(FILE *to, const struct cover *v)
                 v->longest[j]);
 }
 
+static void print_handed(FILE *to, const struct cover *v)
+{
+    fprintf(to, "\n%-12s %8s %8s %8s\n", "vCPUs", "all", "empty", "full");
+    for (int h = 0; h < HANDS; h++)
+        fprintf(to, "%-12s %8" PRIu64 " %8" PRIu64 " %8" PRIu64 "\n", HAND_NAME[h], v->handed[h].vcpus,
+                v->handed[h].empty, v->handed[h].full);
+}
+
 /* ---- The lines that sum it up ---- */
 
 static void print_agreed(FILE *to, const struct figures *f)
@@ -88,7 +96,8 @@ static void print_agreed(FILE *to, const struct figures *f)
 
 static void print_worth(FILE *to, const struct cover *v)
 {
-    static const char *const can[WAYS] = { "settable elements set", "readable read", "in effects", "returned" };
+    static const char *const can[WAYS] = { "settable elements set", "readable read", "in effects", "returned", "taken",
+                                           "given back" };
     uint64_t accepted = all_accepted(v), nops = all_only_nops(v);
     fprintf(to, "worth: %s", worth_nothing(v) ? "NOTHING: " : "");
     for (enum way way = 0; way < WAYS; way++)
@@ -109,6 +118,7 @@ void print_score(FILE *to, const struct result *r)
     fprintf(to, "\n");
     print_elements(to, &f->cover);
     print_buffers(to, &f->cover);
+    print_handed(to, &f->cover);
     print_agreed(to, f);
     print_worth(to, &f->cover);
     fprintf(to, "verdict: %s, vendor %s\n", verdict_name(r->verdict), r->order->vendor);

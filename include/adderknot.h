@@ -45,16 +45,19 @@ extern "C" {
  *     byte 9      1              zero
  *     byte 10     16 * 2         the slot words, from the most significant bit down: used (1 bit), guest (4 bits), vCPU
  *                                (11 bits); that of guest 3, vCPU 2047 is 0x9FFF
- *     byte 42     8 * 52         the values of each guest: logical PVR (element 0x0003) at 0, TB offset (0x0004) at 4,
+ *     byte 42     2              the taken marks, slot 0 the most significant bit: whether L1 has the state of the vCPU
+ *                                in the slot
+ *     byte 44     8 * 52         the values of each guest: logical PVR (element 0x0003) at 0, TB offset (0x0004) at 4,
  *                                partition table (0x0005) at 12, process table (0x0006) at 36
- *     byte 458    16 * 1,820     the values of the vCPU in each slot, in order of element ID without gaps
+ *     byte 460    16 * 1,820     the values of the vCPU in each slot, in order of element ID without gaps
  *
  * A store is well formed if its length is ADK_STORE_SIZE, byte 9 is zero, no capability but bits 1 and 2 is agreed,
- * each used word names a live guest, no two used words name the same guest and vCPU, and unused words are zero. Value
- * bytes may be anything. adk_fresh_store makes a store of any ADK_STORE_SIZE bytes; every other call that is lent a
- * store keeps a well-formed one well formed and answers ADK_BAD_STORE for one that is not.
+ * each used word names a live guest, no two used words name the same guest and vCPU, unused words are zero, and no
+ * unused slot has a taken mark. Value bytes may be anything, those of a taken vCPU too. adk_fresh_store makes a store
+ * of any ADK_STORE_SIZE bytes; every other call that is lent a store keeps a well-formed one well formed and answers
+ * ADK_BAD_STORE for one that is not.
  */
-#define ADK_STORE_SIZE 29578
+#define ADK_STORE_SIZE 29580
 #define ADK_GUESTS 8
 #define ADK_SLOTS 16
 
@@ -70,6 +73,9 @@ extern "C" {
 
 /* Flag of adk_get_state and adk_set_state: state of the guest instead of one vCPU. */
 #define ADK_GUEST_WIDE ADK_BIT(0)
+
+/* Flag of adk_get_state: take the whole state of a vCPU; of adk_set_state: give it back. Not with ADK_GUEST_WIDE. */
+#define ADK_HAND_OVER ADK_BIT(1)
 
 /* Flags of adk_run_vcpu: interrupts that L0 is to generate in the vCPU. They are supported and change nothing here. */
 #define ADK_RUN_EXTERNAL_INTERRUPT ADK_BIT(0)
@@ -117,7 +123,7 @@ extern "C" {
  *     0x0000           any   RW      NOP, in both scopes: its value bytes are neither read nor written
  *
  *                                    Guest-wide
- *     0x0001           8     R       size of L0's vCPU state: always 1,820
+ *     0x0001           8     R       size of L0's vCPU state, as it is handed over: always 1,844, ADK_FORM_MAX
  *     0x0002           8     R       least size of a run vCPU output buffer: always 124
  *     0x0003           4     RW      logical PVR. Rule: ADK_PVR_ARCH_300, if ADK_CAP_POWER9 is agreed at the call, or
  *                                    ADK_PVR_ARCH_31, if ADK_CAP_POWER10 is
@@ -244,6 +250,31 @@ enum {
 };
 
 /*
+ * A vCPU HANDED OVER
+ *
+ * L1 may take the whole state of an idle vCPU, with adk_get_state and ADK_HAND_OVER, and give it back later, with
+ * adk_set_state and ADK_HAND_OVER. In between the vCPU is taken: it exists and keeps its slot, its values here are
+ * zero, and get state, set state and run of it are ADK_WRONG_OWNER. Guest-wide calls, the clock and the capabilities
+ * are as ever, creating it again is ADK_VCPU_EXISTS, and deleting its guest drops it.
+ *
+ * The state travels in a form of ADK_FORM_MIN to ADK_FORM_MAX bytes, which is no guest state buffer. It is bits, packed
+ * most significant first:
+ *
+ *     4 bits      the version, 1
+ *     11 bits     the vCPU id
+ *     1 bit       zero
+ *     170 bits    for each thread element, in order of ID, whether its value is present: exactly if it is not all zero
+ *     6 bits      zero
+ *                 from byte 24 on the present values, in order of ID without gaps
+ *
+ * Each state has one form. It holds what the vCPU held, whatever the access of an element: PPR and 0xF000 to 0xF003
+ * too, and sizes of run buffers that break their rule. It does not name the guest: a vCPU with the same id of another
+ * guest, if taken, may be given it.
+ */
+#define ADK_FORM_MIN 24
+#define ADK_FORM_MAX 1844
+
+/*
  * THE ANSWERS
  *
  * An answer is three numbers, the registers R3, R4 and R5 after the hypercall. r4 and r5 are 0 where nothing is said.
@@ -256,7 +287,8 @@ enum {
  *  3  ADK_BAD_PARAMETER           the guest is not live; create guest: the token is not ADK_TOKEN; set capabilities:
  *                                 a bit that is not offered. r4: set capabilities, 1
  *  4  ADK_BAD_VCPU                the vCPU id is above ADK_VCPU_MAX, or (not when creating) the vCPU is absent
- *  5  ADK_BAD_LENGTH              the buffer has under ADK_BUFFER_MIN or over ADK_BUFFER_MAX bytes; never in a run
+ *  5  ADK_BAD_LENGTH              the buffer has under ADK_BUFFER_MIN or over ADK_BUFFER_MAX bytes; never in a run.
+ *                                 Taking a vCPU: under ADK_FORM_MAX; giving it back: under ADK_FORM_MIN
  *  6  ADK_INVALID_ELEMENT_ID      get and set state, run input: an element's ID is not listed, of the wrong scope, or
  *                                 not permitted in the call. r4: its index, from 0; r5: its byte offset; in a run
  *                                 input r4 is the offset and r5 the index. Lookup: no counted element has the ID. r4:
@@ -272,9 +304,11 @@ enum {
  * 14  ADK_BAD_EFFECT              run: the effect has under ADK_BUFFER_MIN or over ADK_BUFFER_MAX bytes, or a bad
  *                                 element. r4: the byte offset of its first bad element; r5: that one's index; both 0
  *                                 if its length is bad
+ * 16  ADK_WRONG_OWNER             get state, set state and run of a vCPU: it is taken; giving back: it is not
+ * 17  ADK_BAD_FORM                giving back: the buffer does not begin with a form of this vCPU
  * 21  ADK_CAPABILITIES_IN_USE     set capabilities: a guest is live, and the bitmap is not the agreed one
  *
- * 15 is a fault of the L1 cache, which C cannot call. 16 to 20 are not given.
+ * 15 is a fault of the L1 cache, which C cannot call. 18 to 20 are not given.
  */
 enum {
     ADK_OK = 0,
@@ -292,6 +326,8 @@ enum {
     ADK_LENT_TOO_SHORT = 12,
     ADK_UNKNOWN_EXIT = 13,
     ADK_BAD_EFFECT = 14,
+    ADK_WRONG_OWNER = 16,
+    ADK_BAD_FORM = 17,
     ADK_CAPABILITIES_IN_USE = 21
 };
 
@@ -345,7 +381,7 @@ adk_answer adk_set_capabilities(uint8_t *store, size_t store_len, uint64_t flags
 adk_answer adk_create_guest(uint8_t *store, size_t store_len, uint64_t flags, uint64_t token);
 
 /*
- * H_GUEST_CREATE_VCPU. Creates a vCPU of a live guest in the first free slot. Its values are zero.
+ * H_GUEST_CREATE_VCPU. Creates a vCPU of a live guest in the first free slot. Its values are zero, and it is not taken.
  *
  * Answers: ADK_BAD_STORE, ADK_BAD_FLAG, ADK_BAD_PARAMETER (the guest is not live), ADK_BAD_VCPU (above ADK_VCPU_MAX),
  * ADK_VCPU_EXISTS, ADK_NOT_ENOUGH_RESOURCES, ADK_OK.
@@ -355,13 +391,21 @@ adk_answer adk_create_vcpu(uint8_t *store, size_t store_len, uint64_t flags, uin
 /*
  * H_GUEST_GET_STATE. Reads elements of a vCPU or, with ADK_GUEST_WIDE, of a guest: vcpu is then ignored. The caller
  * writes the count and each element's ID and size; the call fills in the value bytes of each, also where an ID comes
- * more than once, and writes nothing else of the buffer.
+ * more than once, and writes nothing else of the buffer. The store stays.
  *
  * Answers: ADK_BAD_STORE, ADK_BAD_FLAG (a bit other than ADK_GUEST_WIDE), ADK_BAD_PARAMETER (the guest is not live),
- * ADK_BAD_VCPU (never with ADK_GUEST_WIDE), ADK_BAD_LENGTH, then of the first bad element ADK_INVALID_ELEMENT_ID or
- * ADK_INVALID_ELEMENT_SIZE (r4: its index, from 0; r5: its byte offset), ADK_OK.
+ * ADK_BAD_VCPU, ADK_WRONG_OWNER (the vCPU is taken; neither of these with ADK_GUEST_WIDE), ADK_BAD_LENGTH, then of the
+ * first bad element ADK_INVALID_ELEMENT_ID or ADK_INVALID_ELEMENT_SIZE (r4: its index, from 0; r5: its byte offset),
+ * ADK_OK.
+ *
+ * With ADK_HAND_OVER it takes the vCPU. The buffer is not read: its first bytes become the form of the vCPU, and the
+ * rest of it stays. The vCPU's values are zeroed, and it is taken. It is the only get state that writes the store.
+ *
+ * Answers: ADK_BAD_STORE, ADK_BAD_FLAG (a bit other than ADK_HAND_OVER; with ADK_GUEST_WIDE it is ADK_HAND_OVER itself,
+ * r4 1), ADK_BAD_PARAMETER, ADK_BAD_VCPU, ADK_WRONG_OWNER (the vCPU is taken already), ADK_BAD_LENGTH (under
+ * ADK_FORM_MAX, whatever the form would need, or over ADK_BUFFER_MAX), ADK_OK.
  */
-adk_answer adk_get_state(const uint8_t *store, size_t store_len, uint64_t flags, uint64_t guest, uint64_t vcpu,
+adk_answer adk_get_state(uint8_t *store, size_t store_len, uint64_t flags, uint64_t guest, uint64_t vcpu,
                          uint8_t *buffer, size_t buffer_len);
 
 /*
@@ -370,8 +414,17 @@ adk_answer adk_get_state(const uint8_t *store, size_t store_len, uint64_t flags,
  * that the buffer does not name stay.
  *
  * Answers: ADK_BAD_STORE, ADK_BAD_FLAG (a bit other than ADK_GUEST_WIDE), ADK_BAD_PARAMETER (the guest is not live),
- * ADK_BAD_VCPU (never with ADK_GUEST_WIDE), ADK_BAD_LENGTH, then of the first bad element ADK_INVALID_ELEMENT_ID,
- * ADK_INVALID_ELEMENT_SIZE or ADK_INVALID_ELEMENT_VALUE (r4: its index, from 0; r5: its byte offset), ADK_OK.
+ * ADK_BAD_VCPU, ADK_WRONG_OWNER (the vCPU is taken; neither of these with ADK_GUEST_WIDE), ADK_BAD_LENGTH, then of the
+ * first bad element ADK_INVALID_ELEMENT_ID, ADK_INVALID_ELEMENT_SIZE or ADK_INVALID_ELEMENT_VALUE (r4: its index, from
+ * 0; r5: its byte offset), ADK_OK.
+ *
+ * With ADK_HAND_OVER it gives back a taken vCPU. The buffer begins with a form of it, mostly the one that was taken;
+ * bytes behind the form are ignored. The vCPU's values become those of the form, all others zero, and it is no longer
+ * taken.
+ *
+ * Answers: ADK_BAD_STORE, ADK_BAD_FLAG (as in taking), ADK_BAD_PARAMETER, ADK_BAD_VCPU, ADK_WRONG_OWNER (the vCPU is
+ * not taken), ADK_BAD_LENGTH (under ADK_FORM_MIN or over ADK_BUFFER_MAX), ADK_BAD_FORM (another version or vCPU id, a
+ * bit that must be zero is not, a present value runs past the end of the buffer or is all zero), ADK_OK.
  */
 adk_answer adk_set_state(uint8_t *store, size_t store_len, uint64_t flags, uint64_t guest, uint64_t vcpu,
                          const uint8_t *buffer, size_t buffer_len);
@@ -401,19 +454,20 @@ adk_answer adk_set_state(uint8_t *store, size_t store_len, uint64_t flags, uint6
  * ADK_RUN_SYSTEM_RESET are supported.
  *
  * Answers: ADK_BAD_STORE, ADK_BAD_FLAG (a bit other than 0 to 2), ADK_BAD_PARAMETER (the guest is not live),
- * ADK_BAD_VCPU, ADK_NOT_REGISTERED (r4 0: the input; then r4 1: the output), ADK_LENT_TOO_SHORT (r4 0: the input; then
- * r4 1: the output), then of the input's first bad element ADK_INVALID_ELEMENT_ID or ADK_INVALID_ELEMENT_SIZE (r4: its
- * byte offset; r5: its index), ADK_UNKNOWN_EXIT, ADK_BAD_EFFECT (r4: the byte offset of its first bad element; r5: that
- * one's index; both 0 if its length is bad), ADK_OK (r4: exit_reason).
+ * ADK_BAD_VCPU, ADK_WRONG_OWNER (the vCPU is taken), ADK_NOT_REGISTERED (r4 0: the input; then r4 1: the output),
+ * ADK_LENT_TOO_SHORT (r4 0: the input; then r4 1: the output), then of the input's first bad element
+ * ADK_INVALID_ELEMENT_ID or ADK_INVALID_ELEMENT_SIZE (r4: its byte offset; r5: its index), ADK_UNKNOWN_EXIT,
+ * ADK_BAD_EFFECT (r4: the byte offset of its first bad element; r5: that one's index; both 0 if its length is bad),
+ * ADK_OK (r4: exit_reason).
  */
 adk_answer adk_run_vcpu(uint8_t *store, size_t store_len, uint64_t flags, uint64_t guest, uint64_t vcpu,
                         const uint8_t *input, size_t input_len, uint8_t *output, size_t output_len,
                         const uint8_t *effect, size_t effect_len, uint64_t exit_reason);
 
 /*
- * H_GUEST_DELETE. Deletes a live guest and its vCPUs, or, with ADK_DELETE_ALL, every guest and vCPU: guest is then
- * ignored, and no guest need be live. Numbers and slots so freed are used again. Agreed capabilities and value bytes
- * stay.
+ * H_GUEST_DELETE. Deletes a live guest and its vCPUs, taken ones too, or, with ADK_DELETE_ALL, every guest and vCPU:
+ * guest is then ignored, and no guest need be live. Numbers and slots so freed are used again. Agreed capabilities and
+ * value bytes stay.
  *
  * Answers: ADK_BAD_STORE, ADK_BAD_FLAG (a bit other than ADK_DELETE_ALL), ADK_BAD_PARAMETER (the guest is not live),
  * ADK_OK.

@@ -255,7 +255,7 @@ static inline const char *adk_answer_name(uint64_t r3)
         "success", "store not well formed", "unsupported flag", "bad parameter", "bad vCPU", "bad length",
         "invalid element ID", "invalid element size", "invalid element value", "not enough resources", "vCPU exists",
         "run buffer not registered", "lent too short", "unknown exit", "bad effect", "cache not well formed",
-        NULL, NULL, NULL, NULL, NULL, "capabilities in use"
+        "wrong owner of the state", "bad form", NULL, NULL, NULL, "capabilities in use"
     };
     return r3 < sizeof names / sizeof names[0] && names[r3] != NULL ? names[r3] : "no answer of a call";
 }
@@ -284,6 +284,7 @@ enum {
     ADK_H_P2 = -55,
     ADK_H_P3 = -56,
     ADK_H_P5 = -58,
+    ADK_H_BAD_DATA = -70,
     ADK_H_STATE = -75,
     ADK_H_IN_USE = -77,
     ADK_H_INVALID_ELEMENT_ID = -79,
@@ -293,6 +294,7 @@ enum {
     ADK_H_INPUT_BUFFER_TOO_SMALL = -83,
     ADK_H_OUTPUT_BUFFER_NOT_DEFINED = -84,
     ADK_H_OUTPUT_BUFFER_TOO_SMALL = -85,
+    ADK_H_GUEST_VCPU_STATE_NOT_HV_OWNED = -87,
     ADK_H_UNSUPPORTED_FLAG_START = -256
 };
 
@@ -304,6 +306,10 @@ enum {
  * vCPU id its third, the size of a buffer its fifth. ADK_H_IN_USE says that what the call names is taken, a vCPU id;
  * ADK_H_STATE that the call does not fit the state it meets, capabilities that would change under a live guest. Of
  * adk_guest_clock and adk_lookup, which are no hypercalls, it is that of a hypercall with this answer.
+ *
+ * ADK_H_GUEST_VCPU_STATE_NOT_HV_OWNED is hvcall.h's code for a vCPU whose state is with L1, and is told for giving back
+ * a vCPU that is not taken too. ADK_H_BAD_DATA, hvcall.h's H_BAD_DATA, is our choice for bytes that are no form of the
+ * vCPU.
  */
 static inline int64_t adk_papr_code(uint64_t r3, uint64_t r4)
 {
@@ -320,6 +326,8 @@ static inline int64_t adk_papr_code(uint64_t r3, uint64_t r4)
     case ADK_VCPU_EXISTS: return ADK_H_IN_USE;
     case ADK_NOT_REGISTERED: return r4 == 0 ? ADK_H_INPUT_BUFFER_NOT_DEFINED : ADK_H_OUTPUT_BUFFER_NOT_DEFINED;
     case ADK_LENT_TOO_SHORT: return r4 == 0 ? ADK_H_INPUT_BUFFER_TOO_SMALL : ADK_H_OUTPUT_BUFFER_TOO_SMALL;
+    case ADK_WRONG_OWNER: return ADK_H_GUEST_VCPU_STATE_NOT_HV_OWNED;
+    case ADK_BAD_FORM: return ADK_H_BAD_DATA;
     case ADK_CAPABILITIES_IN_USE: return ADK_H_STATE;
     default: return ADK_H_NONE;
     }

@@ -99,6 +99,8 @@ static void names(void)
                                        named(0x1031, "DAWR1") && named(0x2007, "PMC1") && named(0x1053, "DPDES") &&
                                        named(0xF003, "ASDR") && named(0x1054, "unlisted") && named(0x0007, "unlisted"));
     check("names of answers and exits", strcmp(adk_answer_name(14), "bad effect") == 0 &&
+                                            strcmp(adk_answer_name(16), "wrong owner of the state") == 0 &&
+                                            strcmp(adk_answer_name(17), "bad form") == 0 &&
                                             strcmp(adk_answer_name(20), "no answer of a call") == 0 &&
                                             strcmp(adk_answer_name(21), "capabilities in use") == 0 &&
                                             strcmp(adk_answer_name(UINT64_MAX), "no answer of a call") == 0 &&
@@ -115,7 +117,8 @@ static void papr(void)
     } rows[] = { { 0, 0xC00, 0 },   { 1, 0, INT64_MIN }, { 2, 0, -256 }, { 2, 63, -319 }, { 3, 1, -55 },
                  { 4, 0, -56 },     { 5, 0, -58 },       { 6, 3, -79 },  { 7, 3, -80 },   { 8, 3, -81 },
                  { 9, 0, -44 },     { 10, 0, -77 },      { 11, 0, -82 }, { 11, 1, -84 },  { 12, 0, -83 },
-                 { 12, 1, -85 },    { 13, 0, INT64_MIN }, { 14, 4, INT64_MIN }, { 21, 0, -75 } };
+                 { 12, 1, -85 },    { 13, 0, INT64_MIN }, { 14, 4, INT64_MIN }, { 16, 0, -87 },
+                 { 17, 0, -70 },    { 21, 0, -75 } };
     int right = 1;
     size_t i;
     for (i = 0; i < sizeof rows / sizeof rows[0]; i++)

@@ -4,13 +4,13 @@ use mathlib.Core.List.{List, []}
 use Prim.Native.Nat.{ℕ}
 use Rattle.answer.specs.declared.Answer.{Answer}
 use Rattle.answer.specs.declared.Call.{Call}
-use Rattle.answer.specs.declared.Call.the-variants.{RunVcpu, Lookup}
+use Rattle.answer.specs.declared.Call.the-variants.{Lookup}
 use Rattle.answer.specs.declared.Registers.{Registers}
 use Rattle.answer.specs.Answer.{told}
 use Rattle.admission.specs.Refusals.{Outcome}
 use Rattle.gsb.specs.declared.lookups.Found.{Found as Looked}
 use Rattle.adderknot.specs.declared.Found.{Found}
-use Rattle.adderknot.specs.Entries.{Left, tells, leaves, Filled, fills, RunLeft, runs, foundAt}
+use Rattle.adderknot.specs.Entries.{Left, tells, leaves, Filled, fills, foundAt}
 
 module _ (c : Call) (r : Registers) (a : Answer) (s : List ℕ) (o : Outcome) (e : _≡_ {A = Outcome} (record { answer = a; store = s; buffer = [] }) o) (h : r ≡ told c (a .fault) (a .value)) where
   pub told-numbers : r ≡ tells c o
@@ -20,12 +20,8 @@ module _ (c : Call) (r : Registers) (a : Answer) (s : List ℕ) (o : Outcome) (e
   told-all = ap (λ (x : Registers). record { registers = x; store = s }) h ∙ ap (leaves c) e
 
 pub told-filled : (c : Call) (r : Registers) (a : Answer) (s b : List ℕ) (o : Outcome) → _≡_ {A = Outcome} (record { answer = a; store = s; buffer = b }) o → r ≡ told c (a .fault) (a .value)
-    → _≡_ {A = Filled} (record { registers = r; buffer = b }) (fills c o)
-told-filled c r a s b o e h = ap (λ (x : Registers). record { registers = x; buffer = b }) h ∙ ap (fills c) e
-
-pub told-ran : (r : Registers) (a : Answer) (s b : List ℕ) (o : Outcome) → _≡_ {A = Outcome} (record { answer = a; store = s; buffer = b }) o → r ≡ told RunVcpu (a .fault) (a .value)
-    → _≡_ {A = RunLeft} (record { registers = r; store = s; output = b }) (runs o)
-told-ran r a s b o e h = ap (λ (x : Registers). record { registers = x; store = s; output = b }) h ∙ ap runs e
+    → _≡_ {A = Filled} (record { registers = r; store = s; buffer = b }) (fills c o)
+told-filled c r a s b o e h = ap (λ (x : Registers). record { registers = x; store = s; buffer = b }) h ∙ ap (fills c) e
 
 pub told-found : (t : Registers) (f x : Looked) → f ≡ x → t ≡ told Lookup (f .answer .fault) (f .answer .value)
     → _≡_ {A = Found} (record { r3 = t .r3; r4 = t .r4; r5 = t .r5; at = f .at; len = f .len }) (foundAt x)

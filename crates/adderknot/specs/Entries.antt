@@ -2,7 +2,7 @@
 use Prim.Native.Nat.{ℕ}
 use mathlib.Core.List.{List}
 use Rattle.answer.specs.declared.Call.{Call}
-use Rattle.answer.specs.declared.Call.the-variants.{RunVcpu, Lookup}
+use Rattle.answer.specs.declared.Call.the-variants.{Lookup}
 use Rattle.answer.specs.declared.Registers.{Registers}
 use Rattle.answer.specs.Answer.{told}
 use Rattle.gsb.specs.declared.lookups.Found.{Found as Looked}
@@ -20,22 +20,14 @@ tells c o = told c (o .answer .fault) (o .answer .value)
 abbrev pub leaves : Call → Outcome → Left
 leaves c o = record { registers = tells c o; store = o .store }
 
--- of a call that writes a buffer: the store it is lent can't change
+-- of get state and run, which write a buffer too
 pub record Filled : Type 0 where
   pub registers : Registers
+  pub store : List ℕ
   pub buffer : List ℕ
 
 abbrev pub fills : Call → Outcome → Filled
-fills c o = record { registers = tells c o; buffer = o .buffer }
-
--- of a run, which writes both
-pub record RunLeft : Type 0 where
-  pub registers : Registers
-  pub store : List ℕ
-  pub output : List ℕ
-
-abbrev pub runs : Outcome → RunLeft
-runs o = record { registers = tells RunVcpu o; store = o .store; output = o .buffer }
+fills c o = record { registers = tells c o; store = o .store; buffer = o .buffer }
 
 -- a lookup's answer and where the part lies
 abbrev pub foundAt : Looked → Found

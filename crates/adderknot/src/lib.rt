@@ -12,7 +12,7 @@ ghost use Rattle.state.specs.State.{getState, setState};
 ghost use Rattle.run.specs.Run.{runVcpu};
 ghost use Rattle.guests.specs.Guests.{createGuest, createVcpu, deleteGuest};
 ghost use Rattle.l0.specs.Calls.{freshStore, getCapabilities, setCapabilities, guestClock};
-ghost use Rattle.adderknot.specs.Entries.{Left, leaves, Filled, fills, RunLeft, runs, tells, foundAt};
+ghost use Rattle.adderknot.specs.Entries.{Left, leaves, Filled, fills, tells, foundAt};
 
 #[no_mangle]
 pub extern "C" fn adk_fresh_store(store: &mut [u8]) -> Registers
@@ -57,13 +57,13 @@ pub extern "C" fn adk_create_vcpu(store: &mut [u8], flags: u64, guest: u64, vcpu
 
 #[no_mangle]
 pub extern "C" fn adk_get_state(
-    store: &[u8],
+    store: &mut [u8],
     flags: u64,
     guest: u64,
     vcpu: u64,
     buffer: &mut [u8],
 ) -> Registers
-    ensures { λ r. ⌜ _≡_ {A = Filled} (record { registers = r; buffer = now (buffer .exit) }) (fills Call.GetState (getState small (now (store .entry)) flags guest vcpu (now (buffer .entry)))) ⌝ }
+    ensures { λ r. ⌜ _≡_ {A = Filled} (record { registers = r; store = now (store .exit); buffer = now (buffer .exit) }) (fills Call.GetState (getState small (now (store .entry)) flags guest vcpu (now (buffer .entry)))) ⌝ }
 {
     registers_of(
         Call::GetState,
@@ -98,7 +98,7 @@ pub extern "C" fn adk_run_vcpu(
     effect: &[u8],
     exit_reason: u64,
 ) -> Registers
-    ensures { λ r. ⌜ _≡_ {A = RunLeft} (record { registers = r; store = now (store .exit); output = now (output .exit) }) (runs (runVcpu small (now (store .entry)) flags guest vcpu (now (input .entry)) (now (output .entry)) (now (effect .entry)) «exit_reason»)) ⌝ }
+    ensures { λ r. ⌜ _≡_ {A = Filled} (record { registers = r; store = now (store .exit); buffer = now (output .exit) }) (fills Call.RunVcpu (runVcpu small (now (store .entry)) flags guest vcpu (now (input .entry)) (now (output .entry)) (now (effect .entry)) «exit_reason»)) ⌝ }
 {
     registers_of(
         Call::RunVcpu,

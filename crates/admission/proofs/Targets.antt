@@ -1,29 +1,33 @@
--- The tests 1 to 4 of a call that names a guest or a vCPU, in the form of the code's needs. Assumes nothing.
-use mathlib.Core.Path.{_≡_, sym, ap, _∙_, subst}
+-- The tests 1 to 4 and 16 of a call that names a guest or a vCPU, in the form of the code's needs. Assumes nothing.
+use mathlib.Core.Path.{_≡_, refl, sym, ap, _∙_, subst}
 use mathlib.Core.Bool.{Bool, true, false, not, _&&_, cond}
 use mathlib.Core.List.{List}
 use Prim.Native.Nat.{ℕ, _+_, _^_, _≤_, _<_}
 use native.Mathlib.Omega.{arith}
-use lib.Dec.{leb}
-use borrow.Author.Tests.{le-leb, lt-leb}
+use lib.Dec.{leb, ltb}
+use borrow.Author.Tests.{le-leb, lt-leb, ltb-true}
 use Rattle.answer.specs.declared.Fault.{Fault}
-use Rattle.answer.specs.declared.Fault.the-variants.{Guest, Vcpu}
+use Rattle.answer.specs.declared.Fault.the-variants.{Store, Guest, Vcpu, Taken}
 use Rattle.store.specs.declared.Layout.{Layout}
 use Rattle.store.specs.Layout.{Sound, small, guestBytes, slotBytes, guestAt, slotAt}
-use Rattle.store.specs.Header.{header, live, slotOf}
+use Rattle.store.specs.Header.{header, live, wordOf, slotHolding, slotOf, isTaken}
+use Rattle.store.specs.Store.{wellFormed}
 use Rattle.admission.specs.declared.Admission.{Admission}
 use Rattle.admission.specs.declared.Admission.the-variants.{Admitted, Refused}
 use Rattle.admission.specs.declared.Target.{Target}
 use Rattle.admission.specs.declared.Target.the-variants.{Refused as TargetRefused, At}
+use Rattle.admission.specs.declared.Slot.{Slot}
+use Rattle.admission.specs.declared.Slot.the-variants.{Refused as SlotRefused, At as SlotAt}
 use Rattle.admission.specs.Refusals.{admission, judgement}
-use Rattle.admission.specs.Target.{targetTests, baseOf, targetOf, Held}
+use Rattle.admission.specs.Target.{slotNamed, isAbsent, isAway, targetTests, baseOf, targetOf, Held, vcpuTests, vcpuSlot, Within}
 use Rattle.admission.proofs.FirstTests.{refused, past, admitted}
 use Rattle.admission.proofs.Judging.{was-refused, was-admitted}
 
 -- ---- the answers of `target_of`
 module _ (l : Layout) (s : List ℕ) (supported flags : ℕ) (wide : Bool) (guest vcpu : ℕ) (a : Admission) (q : a ≡ admission l s supported flags) where
   rest : Target
-  rest = cond (not (live l (header l s) guest)) (TargetRefused Guest) (cond (not wide && leb (l .slots) (slotOf l (header l s) guest vcpu)) (TargetRefused Vcpu) (At (baseOf l s wide guest vcpu)))
+  rest = cond (not (live l (header l s) guest)) (TargetRefused Guest) (cond (not wide && isAbsent l s guest vcpu) (TargetRefused Vcpu)
+      (cond (not wide && isAway l s guest vcpu) (TargetRefused Taken) (At (baseOf l s wide guest vcpu))))
 
   pub target-refused : (f : Fault) → a ≡ Refused f → TargetRefused f ≡ targetOf l s supported flags wide guest vcpu
   unfolding targetOf rest
@@ -55,11 +59,20 @@ module _ (l : Layout) (s : List ℕ) (supported flags : ℕ) (wide : Bool) (gues
             let m : l .slots ≤ slotOf l (header l s) guest vcpu = omega arith in
             sym (target-past ∙ simp (alive, w, le-leb _ _ m))
 
-        pub target-slot : (p : ℕ) → j < l .slots → p ≡ slotAt l j → At p ≡ targetOf l s supported flags wide guest vcpu
-        unfolding rest baseOf
-        target-slot p k f =
-            let m : slotOf l (header l s) guest vcpu < l .slots = omega arith in
-            ap At (f ∙ ap (slotAt l) e) ∙ sym (target-past ∙ simp (alive, w, lt-leb _ _ m))
+        module _ (k : j < l .slots) (y : Bool) (t : y ≡ isTaken l (header l s) j) where
+          present : leb (l .slots) (slotOf l (header l s) guest vcpu) ≡ false
+          present = lt-leb _ _ (subst (λ (i : ℕ). i < l .slots) e k)
+
+          mark : isTaken l (header l s) (slotOf l (header l s) guest vcpu) ≡ y
+          mark = sym (t ∙ ap (isTaken l (header l s)) e)
+
+          pub target-taken : y ≡ true → TargetRefused Taken ≡ targetOf l s supported flags wide guest vcpu
+          unfolding rest
+          target-taken h = let m = mark ∙ h in sym (target-past ∙ simp (alive, w, present, m))
+
+          pub target-slot : (p : ℕ) → y ≡ false → p ≡ slotAt l j → At p ≡ targetOf l s supported flags wide guest vcpu
+          unfolding rest baseOf
+          target-slot p h f = let m = mark ∙ h in ap At (f ∙ ap (slotAt l) e) ∙ sym (target-past ∙ simp (alive, w, present, m))
 
 -- that its values lie within the store
 pub held-wide : (l : Layout) (wide : Bool) (len base : ℕ) → len ≡ l .size → wide ≡ true → base + guestBytes ≤ l .«slots_at» → Sound l → Held (At base) wide l len
@@ -96,6 +109,39 @@ module _ (l : Layout) (s : List ℕ) (supported flags : ℕ) (wide : Bool) (gues
       at-same : {x y : ℕ} → At x ≡ At y → x ≡ y
       at-same e = cc
 
+slot-refused-same : (f g : Fault) → SlotRefused f ≡ SlotRefused g → f ≡ g
+slot-refused-same f g e = cc
+
+slot-refused-not : {j : ℕ} (f : Fault) → SlotAt j ≡ SlotRefused f → ⊥
+slot-refused-not f e = let z : _≡_ {A = ℕ} 0 1 = cc in omega arith
+
+slot-found-not : {j : ℕ} (f : Fault) → SlotRefused f ≡ SlotAt j → ⊥
+slot-found-not f e = let z : _≡_ {A = ℕ} 0 1 = cc in omega arith
+
+module _ (l : Layout) (s : List ℕ) (guest vcpu : ℕ) (a : Slot) (q : a ≡ vcpuSlot l s guest vcpu) where
+  pub slot-judged : (f : Fault) → a ≡ SlotRefused f → judgement (vcpuTests l s guest vcpu) ≡ Refused f
+  unfolding vcpuSlot
+  slot-judged f h = was-refused SlotRefused slot-refused-same (SlotAt (slotNamed l s guest vcpu)) slot-refused-not (vcpuTests l s guest vcpu) f (sym q ∙ h)
+
+  pub slot-named : (j : ℕ) → a ≡ SlotAt j → (judgement (vcpuTests l s guest vcpu) ≡ Admitted) × (slotNamed l s guest vcpu ≡ j)
+  unfolding vcpuSlot
+  slot-named j h =
+      let p = was-admitted SlotRefused slot-refused-same (SlotAt (slotNamed l s guest vcpu)) slot-refused-not (vcpuTests l s guest vcpu) (SlotAt j) slot-found-not (sym q ∙ h) in
+      (p .0, at-same (p .1))
+    where
+      at-same : {x y : ℕ} → SlotAt x ≡ SlotAt y → x ≡ y
+      at-same e = cc
+
+-- what a slot that was found is
+pub within-size : (t : Slot) (l : Layout) (len vcpu j : ℕ) → Within t l len vcpu → t ≡ SlotAt j → len ≡ l .size
+within-size t l len vcpu j h e = subst (λ (x : Slot). Within x l len vcpu) e h .0
+
+pub within-slots : (t : Slot) (l : Layout) (len vcpu j : ℕ) → Within t l len vcpu → t ≡ SlotAt j → j < l .slots
+within-slots t l len vcpu j h e = subst (λ (x : Slot). Within x l len vcpu) e h .1
+
+pub within-id : (t : Slot) (l : Layout) (len vcpu j : ℕ) → Within t l len vcpu → t ≡ SlotAt j → vcpu < 2048
+within-id t l len vcpu j h e = subst (λ (x : Slot). Within x l len vcpu) e h .2
+
 pub held-size : (t : Target) (wide : Bool) (l : Layout) (len base : ℕ) → Held t wide l len → t ≡ At base → len ≡ l .size
 held-size t wide l len base h e = subst (λ (x : Target). Held x wide l len) e h .0
 
@@ -120,3 +166,43 @@ module _ (l m : Layout) (p : l ≡ small) (q : m ≡ small) where
 
   pub held-same : (r : Target) (wide : Bool) (n : ℕ) → Held r wide m n → Held r wide l n
   held-same r wide n h = subst (λ (x : Layout). Held r wide x n) (q ∙ sym p) h
+
+-- ---- the answers of `vcpu_slot`
+module _ (l : Layout) (s : List ℕ) (guest vcpu : ℕ) (g : Bool) (p : g ≡ wellFormed l s) where
+  pub slot-malformed : not g ≡ true → SlotRefused Store ≡ vcpuSlot l s guest vcpu
+  unfolding vcpuSlot
+  slot-malformed n = let m : not (wellFormed l s) ≡ true = ap not (sym p) ∙ n in sym (simp m)
+
+  module _ (n : not g ≡ false) (x : Bool) (o : x ≡ live l (header l s) guest) where
+    good : not (wellFormed l s) ≡ false
+    good = ap not (sym p) ∙ n
+
+    pub slot-dead : not x ≡ true → SlotRefused Guest ≡ vcpuSlot l s guest vcpu
+    unfolding vcpuSlot
+    slot-dead d = let m : not (live l (header l s) guest) ≡ true = ap not (sym o) ∙ d in sym (simp (good, m))
+
+    module _ (a : not x ≡ false) (j : ℕ) (e : j ≡ slotOf l (header l s) guest vcpu) where
+      lives : not (live l (header l s) guest) ≡ false
+      lives = ap not (sym o) ∙ a
+
+      pub slot-absent : l .slots ≤ j → SlotRefused Vcpu ≡ vcpuSlot l s guest vcpu
+      unfolding vcpuSlot
+      slot-absent k =
+          let m : l .slots ≤ slotOf l (header l s) guest vcpu = omega arith in
+          sym (simp (good, lives, le-leb _ _ m))
+
+      pub slot-found : j < l .slots → SlotAt j ≡ vcpuSlot l s guest vcpu
+      unfolding vcpuSlot
+      slot-found k =
+          let m : slotOf l (header l s) guest vcpu < l .slots = omega arith in
+          ap SlotAt e ∙ sym (simp (good, lives, lt-leb _ _ m))
+
+-- a slot names a vCPU id of 11 bits
+pub slot-within : (l : Layout) (h : List ℕ) (guest vcpu j : ℕ) → j ≡ slotOf l h guest vcpu → j < l .slots → vcpu < 2048
+unfolding slotOf
+slot-within l h guest vcpu j e k = go (live l h guest) (ltb vcpu 2048) refl (subst (λ (i : ℕ). i < l .slots) e k)
+  where
+    go : (x y : Bool) → ltb vcpu 2048 ≡ y → cond (x && y) (slotHolding l h (wordOf l guest vcpu)) (l .slots) < l .slots → vcpu < 2048
+    go true true q i = ltb-true _ _ q
+    go true false q i = absurd (omega arith)
+    go false y q i = absurd (omega arith)

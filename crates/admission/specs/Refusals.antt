@@ -71,3 +71,11 @@ bit0 = 2 ^ 63
 
 abbrev pub hasBit0 : ℕ → Bool
 hasBit0 flags = eqb (flags / bit0) 1
+
+-- 02, L1: "Get state with flag bit 1 takes it, set state with bit 1 gives it back." "Both bits together are answer 2 with R4 1", and bit 1 with any
+-- other bit is 2 as well, so that a call hands over where bit 1 is all that is set.
+abbrev pub bit1 : ℕ
+bit1 = 2 ^ 62
+
+abbrev pub handsOver : ℕ → Bool
+handsOver flags = eqb flags bit1

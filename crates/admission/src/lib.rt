@@ -4,6 +4,7 @@ use answer::Fault;
 use store::Layout;
 use store::guest_at;
 use store::is_live;
+use store::is_taken;
 use store::slot_at;
 use store::slot_of;
 use store::small_layout;
@@ -14,7 +15,7 @@ ghost use lib.ListN.{length};
 ghost use Rattle.store.specs.Layout.{Sound, small};
 ghost use Rattle.store.specs.Header.{outside};
 ghost use Rattle.admission.specs.Refusals.{admission};
-ghost use Rattle.admission.specs.Target.{targetOf, Held};
+ghost use Rattle.admission.specs.Target.{targetOf, Held, vcpuSlot, Within};
 
 // Past the first tests of a call, or refused by one.
 pub enum Admission {
@@ -24,6 +25,12 @@ pub enum Admission {
 
 // What a call works on: where the values of a guest or of a vCPU start; or a refusal by the tests before.
 pub enum Target {
+    Refused(Fault),
+    At(usize),
+}
+
+// The slot of a vCPU; or a refusal by the tests before.
+pub enum Slot {
     Refused(Fault),
     At(usize),
 }
@@ -50,7 +57,7 @@ pub fn admit(store: &[u8], l: Layout, supported: u64, flags: u64) -> Admission
     Admission::Admitted
 }
 
-// The tests 1 to 4, and where the values of the guest or the vCPU start.
+// The tests 1 to 4 and 16, and where the values of the guest or the vCPU start.
 pub fn target_of(
     store: &[u8],
     l: Layout,
@@ -79,6 +86,9 @@ pub fn target_of(
     if l.slots <= slot {
         return Target::Refused(Fault::Vcpu);
     }
+    if is_taken(store, l, slot) {
+        return Target::Refused(Fault::Taken);
+    }
     Target::At(slot_at(l, slot))
 }
 
@@ -97,4 +107,23 @@ pub fn small_target(
     ensures { λ r. ⌜ Held r wide l (length (now (store .entry))) ⌝ }
 {
     target_of(store, small_layout(), supported, flags, wide, guest, vcpu)
+}
+
+// The tests 1, 3 and 4, for the calls that hand a vCPU over.
+pub fn vcpu_slot(store: &[u8], l: Layout, guest: usize, vcpu: usize) -> Slot
+    requires { ⌜ Sound l ⌝ }
+    ensures { λ r. ⌜ r ≡ vcpuSlot l (now (store .entry)) guest vcpu ⌝ }
+    ensures { λ r. ⌜ Within r l (length (now (store .entry))) vcpu ⌝ }
+{
+    if !well_formed(store, l) {
+        return Slot::Refused(Fault::Store);
+    }
+    if !is_live(store, l, guest) {
+        return Slot::Refused(Fault::Guest);
+    }
+    let slot = slot_of(store, l, guest, vcpu);
+    if l.slots <= slot {
+        return Slot::Refused(Fault::Vcpu);
+    }
+    Slot::At(slot)
 }

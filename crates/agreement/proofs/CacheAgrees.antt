@@ -54,7 +54,7 @@ pub agrees : (l : Layout) → Sound l → (guest vcpu : ℕ) (s : List ℕ) (c :
     → Agree l guest vcpu os [] (record { cache = c; store = s }) s
 agrees l so guest vcpu s c st os a =
     let j = slotOf l (header l s) guest vcpu in
-    let o : Ours l so guest vcpu j (st .live) s = record { good = st .formed; slot = refl } in
+    let o : Ours l so guest vcpu j (st .live) s = record { good = st .formed; slot = refl; here = st .here } in
     let e = ours-base l so guest vcpu j (st .live) s o in
     agree l so guest vcpu j (st .live) os a (record { cache = c; store = s }) s []
     (subst (λ (m : List ℕ). Inv l so guest vcpu j (st .live) (record { cache = record { values = c .values; marks = m }; store = s }) s []) (sym (st .empty))
@@ -63,6 +63,6 @@ agrees l so guest vcpu s c st os a =
     (subst (λ (x : ℕ). 2424 ≤ inputSize s x) e (st .wide))
     (ap (λ (x : ℕ). goodOutput (outputSize s x)) (sym e) ∙ st .output) (c .values) (st .values)))
 
--- of the store of 29,578 bytes
+-- of the store of 29,580 bytes
 pub cache-agrees : (guest vcpu : ℕ) (s : List ℕ) (c : Cache) → Start small guest vcpu s c → (os : List Op) → Allowed guest os → Agree small guest vcpu os [] (record { cache = c; store = s }) s
 cache-agrees guest vcpu s c st os a = agrees small sound-small guest vcpu s c st os a

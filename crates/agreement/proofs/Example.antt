@@ -14,7 +14,7 @@ use Rattle.rules.specs.Rules.{allows, permits}
 use Rattle.gsb.specs.Message.{message}
 use Rattle.store.specs.Layout.{small}
 use Rattle.store.specs.Search.{every, first}
-use Rattle.store.specs.Header.{header, capabilitiesOf, live, word, wordOf, isUsed, guestOf, holds, lacks, alone, slotGood, headGood, wordsGood, slotHolding, slotOf}
+use Rattle.store.specs.Header.{header, capabilitiesOf, live, word, wordOf, isUsed, guestOf, isTaken, holds, lacks, alone, slotGood, headGood, wordsGood, slotHolding, slotOf}
 use Rattle.store.specs.Store.{wellFormed, fresh}
 use Rattle.store.proofs.Search.{every-at, no-bool}
 use Rattle.admission.specs.Target.{baseOf}
@@ -25,8 +25,8 @@ use Rattle.agreement.specs.Example.{exampleStore, exampleCache, inputMar
 use Rattle.agreement.proofs.Flush.{all-changed}
 
 pub met : Start small 1 0 exampleStore exampleCache
-unfolding exampleStore exampleCache bytesAt put be digits zeros bit bits table below position every first header capabilitiesOf live word wordOf isUsed guestOf holds lacks alone slotGood headGood wordsGood slotHolding slotOf wellFormed fresh baseOf
-met = record { formed = refl; live = lit< tt; input = refl; wide = lit≤ tt; output = refl; values = refl; empty = refl }
+unfolding exampleStore exampleCache bytesAt put be digits zeros bit bits table below position every first header capabilitiesOf live word wordOf isUsed guestOf isTaken holds lacks alone slotGood headGood wordsGood slotHolding slotOf wellFormed fresh baseOf
+met = record { formed = refl; live = lit< tt; here = refl; input = refl; wide = lit≤ tt; output = refl; values = refl; empty = refl }
 
 -- ---- a well-formed cache with all 164 changed
 pub full-good : goodCache fullCache ≡ true

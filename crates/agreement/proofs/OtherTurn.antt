@@ -16,7 +16,7 @@ use Rattle.l0.specs.Calls.{Call, outcome}
 use Rattle.promises.specs.History.{nameOf, registers}
 use Rattle.promises.specs.Apart.{Elsewhere}
 use Rattle.promises.proofs.Kept.{well-formed-kept}
-use Rattle.promises.proofs.Apart.{apart-slot, apart-values, apart-write}
+use Rattle.promises.proofs.Apart.{apart-slot, apart-mark, apart-values, apart-write}
 use Rattle.agreement.specs.Agree.{Other, Cached, cachedTurn, plainTurn, since}
 use Rattle.l1.proofs.Cells.{input-named, named-end, number-named}
 use Rattle.l1.specs.Cache.{Fit}
@@ -56,7 +56,11 @@ module _ (l : Layout) (so : Sound l) (g v j : ℕ) (below : j < l .slots) (c : C
         let q = same-slot s (i .ours) in
         let r = same-slot p (plain-ours l so g v j below b p ws i) in
         record {
-          ours = record { good = well-formed-kept l so s (i .ours .good) c; slot = apart-slot l so s (i .ours .good) g v j (i .ours .slot) below c far };
+          ours = record {
+            good = well-formed-kept l so s (i .ours .good) c;
+            slot = apart-slot l so s (i .ours .good) g v j (i .ours .slot) below c far;
+            here = apart-mark l so s (i .ours .good) g v j (i .ours .slot) below c far ∙ i .ours .here;
+          };
           input = ap goodInput (values-input l so g v j below s (outcome l s c .store) q) ∙ i .input;
           wide = omega (arith, i .wide, values-input l so g v j below s (outcome l s c .store) q);
           output = ap goodOutput (values-output l so g v j below s (outcome l s c .store) q) ∙ i .output;

@@ -13,11 +13,11 @@ use Rattle.octets.proofs.Numbers.{be-other, be-part}
 use Rattle.elements.specs.Table.{table, below, position}
 use Rattle.store.specs.declared.Layout.{Layout}
 use Rattle.store.specs.Layout.{Sound, slotBytes, slotAt}
-use Rattle.store.specs.Header.{header, live, slotHolding, wordOf, slotOf}
+use Rattle.store.specs.Header.{header, live, slotHolding, wordOf, slotOf, isTaken}
 use Rattle.store.specs.Store.{wellFormed}
 use Rattle.store.proofs.Frame.{header-values, formed-values, formed}
 use Rattle.exits.specs.Exits.{elementOf}
-use Rattle.admission.specs.Refusals.{bit0, Passed}
+use Rattle.admission.specs.Refusals.{bit1, Passed}
 use Rattle.admission.specs.Target.{targetTests, baseOf}
 use Rattle.run.specs.Run.{inputSize, outputSize}
 use Rattle.l1.specs.Marks.{isInput}
@@ -33,6 +33,7 @@ module _ (l : Layout) (so : Sound l) (g v j : ℕ) (below-slots : j < l .slots) 
   pub record Ours (s : List ℕ) : Type 0 where
     pub good : wellFormed l s ≡ true
     pub slot : slotOf l (header l s) g v ≡ j
+    pub here : isTaken l (header l s) j ≡ false
 
   module _ (s : List ℕ) (o : Ours s) where
     pub ours-long : length s ≡ l .size
@@ -53,9 +54,10 @@ module _ (l : Layout) (so : Sound l) (g v j : ℕ) (below-slots : j < l .slots) 
         go true b e = refl
         go false b e = absurd (omega arith)
 
-    -- a thread get or set passes the tests 1 to 4
-    pub ours-target : Passed (targetTests l s bit0 0 false g v)
-    ours-target = (ap not (o .good), (refl, (ap not ours-live, (lt-leb _ _ (subst (λ (n : ℕ). n < l .slots) (sym (o .slot)) below-slots), tt))))
+    -- a thread get or set passes the tests 1 to 4 and 16
+    pub ours-target : Passed (targetTests l s bit1 0 false g v)
+    ours-target =
+        (ap not (o .good), (refl, (ap not ours-live, (lt-leb _ _ (subst (λ (n : ℕ). n < l .slots) (sym (o .slot)) below-slots), (ap (isTaken l (header l s)) (o .slot) ∙ o .here, tt)))))
 
   -- ---- a value written into the slot
   module _ (s : List ℕ) (w : ℕ × List ℕ) (h : isInput (w .0) ≡ true) (z : length (w .1) ≡ elementOf (w .0) .size) where
@@ -66,7 +68,7 @@ module _ (l : Layout) (so : Sound l) (g v j : ℕ) (below-slots : j < l .slots) 
     placed-header = header-values l so s (base + elementOf (w .0) .position) (w .1) place-behind
 
     pub placed-ours : Ours s → Ours (placed base w s)
-    placed-ours o = record { good = formed-values l so s (base + elementOf (w .0) .position) (w .1) place-behind ∙ o .good; slot = ap (λ (x : List ℕ). slotOf l x g v) placed-header ∙ o .slot }
+    placed-ours o = record { good = formed-values l so s (base + elementOf (w .0) .position) (w .1) place-behind ∙ o .good; slot = ap (λ (x : List ℕ). slotOf l x g v) placed-header ∙ o .slot; here = ap (λ (x : List ℕ). isTaken l x j) placed-header ∙ o .here }
 
     -- the two registrations come before
     pub placed-input : inputSize (placed base w s) base ≡ inputSize s base

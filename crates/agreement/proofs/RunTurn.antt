@@ -10,7 +10,7 @@ use borrow.Author.Tests.{le-ltb, ltb-false, leb-true, not-false, eqb-true, ne-eq
 use Rattle.octets.specs.Bytes.{bytesAt, put, zeros}
 use Rattle.octets.proofs.Bytes.{length-put, length-zeros}
 use Rattle.answer.specs.declared.Fault.{Fault}
-use Rattle.answer.specs.declared.Fault.the-variants.{None, Store, Flag, Guest, Token, Capability, Vcpu, Length, Element, Room, Exists, Unregistered, Short, Exit, Effect, Cache as CacheBad, InUse}
+use Rattle.answer.specs.declared.Fault.the-variants.{None, Store, Flag, Guest, Token, Capability, Vcpu, Length, Element, Room, Exists, Unregistered, Short, Exit, Effect, Cache as CacheBad, Taken, Form, InUse}
 use Rattle.answer.specs.declared.RunBuffer.the-variants.{Input, Output}
 use Rattle.answer.specs.declared.Call.{Call as Name}
 use Rattle.answer.specs.declared.Registers.{Registers}
@@ -25,7 +25,7 @@ use Rattle.gsb.specs.Message.{message, Begins}
 use Rattle.gsb.proofs.RoundTrip.{begins-put, begins-first, zeros-first, zeros-good}
 use Rattle.store.specs.declared.Layout.{Layout}
 use Rattle.store.specs.Layout.{Sound}
-use Rattle.store.specs.Header.{header, capabilitiesOf, live, slotOf}
+use Rattle.store.specs.Header.{header, capabilitiesOf, live, slotOf, isTaken}
 use Rattle.store.proofs.Search.{both}
 use Rattle.transfer.specs.Transfer.{applied}
 use Rattle.transfer.proofs.Messages.{applied-zeros}
@@ -70,6 +70,8 @@ run-told (Short buffer) n = refl
 run-told Exit n = refl
 run-told (Effect place) n = refl
 run-told CacheBad n = refl
+run-told Taken n = refl
+run-told Form n = refl
 run-told InUse n = refl
 
 -- a test that holds refuses with a fault
@@ -95,7 +97,7 @@ module _ (l : Layout) (so : Sound l) (g v j : ℕ) (below-slots : j < l .slots) 
   -- ---- the tests 1 to 12, by the header and the two sizes alone
   common : List ℕ → ℕ → ℕ → List (Bool × Fault)
   common h i o =
-      (false, Store) ∷ unsupported runBits flags ∷ (not (live l h g), Guest) ∷ (leb (l .slots) (slotOf l h g v), Vcpu)
+      (false, Store) ∷ unsupported runBits flags ∷ (not (live l h g), Guest) ∷ (leb (l .slots) (slotOf l h g v), Vcpu) ∷ (isTaken l h (slotOf l h g v), Taken)
       ∷ (not (goodInput i), Unregistered Input) ∷ (not (goodOutput o), Unregistered Output) ∷ (ltb (length input) i || false, Short Input) ∷ (ltb (length output) o, Short Output) ∷ []
 
   common-real : (h : List ℕ) (i o : ℕ) → Real (common h i o)
@@ -112,7 +114,10 @@ module _ (l : Layout) (so : Sound l) (g v j : ℕ) (below-slots : j < l .slots) 
             (λ t z. let y : _≡_ {A = ℕ} 0 1 = cc in omega arith),
             (
               (λ t z. let y : _≡_ {A = ℕ} 0 1 = cc in omega arith),
-              ((λ t z. let y : _≡_ {A = ℕ} 0 1 = cc in omega arith), ((λ t z. let y : _≡_ {A = ℕ} 0 1 = cc in omega arith), tt)),
+              (
+                (λ t z. let y : _≡_ {A = ℕ} 0 1 = cc in omega arith),
+                ((λ t z. let y : _≡_ {A = ℕ} 0 1 = cc in omega arith), ((λ t z. let y : _≡_ {A = ℕ} 0 1 = cc in omega arith), tt)),
+              ),
             ),
           ),
         ),
@@ -124,8 +129,8 @@ module _ (l : Layout) (so : Sound l) (g v j : ℕ) (below-slots : j < l .slots) 
       → runTargetTests l s flags g v need lent (length output) ≡ common (header l s) (inputSize s place) (outputSize s place)
   unfolding common
   run-target-common s o need lent k e =
-      ap₂ (λ (t : Bool) (x : ℕ). ((not t, Store) ∷ unsupported runBits flags ∷ (not (live l (header l s) g), Guest) ∷ (leb (l .slots) (slotOf l (header l s) g v), Vcpu) ∷ []) ++ lentTests s x need lent (length output)) (o .good) (ours-base l so g v j below-slots s o)
-      ∙ ap₂ (λ (n : ℕ) (z : Bool). (false, Store) ∷ unsupported runBits flags ∷ (not (live l (header l s) g), Guest) ∷ (leb (l .slots) (slotOf l (header l s) g v), Vcpu)
+      ap₂ (λ (t : Bool) (x : ℕ). ((not t, Store) ∷ unsupported runBits flags ∷ (not (live l (header l s) g), Guest) ∷ (leb (l .slots) (slotOf l (header l s) g v), Vcpu) ∷ (isTaken l (header l s) (slotOf l (header l s) g v), Taken) ∷ []) ++ lentTests s x need lent (length output)) (o .good) (ours-base l so g v j below-slots s o)
+      ∙ ap₂ (λ (n : ℕ) (z : Bool). (false, Store) ∷ unsupported runBits flags ∷ (not (live l (header l s) g), Guest) ∷ (leb (l .slots) (slotOf l (header l s) g v), Vcpu) ∷ (isTaken l (header l s) (slotOf l (header l s) g v), Taken)
       ∷ (not (goodInput (inputSize s place)), Unregistered Input) ∷ (not (goodOutput (outputSize s place)), Unregistered Output) ∷ (ltb n (inputSize s place) || z, Short Input) ∷ (ltb (length output) (outputSize s place), Short Output) ∷ [])
       e (le-ltb (inputSize s place) need k)
 
@@ -143,7 +148,7 @@ module _ (l : Layout) (so : Sound l) (g v j : ℕ) (below-slots : j < l .slots) 
   unfolding common
   common-lent h i o e =
       let p = judged-passed (common h i o) e in
-      let t = p .1 .1 .1 .1 in
+      let t = p .1 .1 .1 .1 .1 in
       let a = both (leb 4 i) (leb i 65536) (not-false _ (t .0)) in
       let c = both (leb 124 o) (leb o 65536) (not-false _ (t .1 .0)) in
       record {
@@ -337,6 +342,7 @@ module _ (l : Layout) (so : Sound l) (g v j : ℕ) (below-slots : j < l .slots) 
       then-ours = record {
         good = applied-kept l so place effect (countOf effect) p behind ∙ plain-is .good;
         slot = ap (λ (h : List ℕ). slotOf l h g v) (applied-header l so place effect (countOf effect) p behind) ∙ plain-is .slot;
+        here = ap (λ (h : List ℕ). isTaken l h j) (applied-header l so place effect (countOf effect) p behind) ∙ plain-is .here;
       }
 
       then-input : inputSize then place ≡ inputSize s place

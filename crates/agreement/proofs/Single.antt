@@ -27,9 +27,9 @@ use Rattle.store.specs.Layout.{Sound}
 use Rattle.transfer.specs.Transfer.{applied, filled}
 use Rattle.transfer.proofs.Messages.{place-cons, place-nil, applied-message, thread-numbered, filled-value-one}
 use Rattle.exits.specs.Exits.{elementOf}
-use Rattle.admission.specs.Refusals.{accept, refuse, decide, bit0}
+use Rattle.admission.specs.Refusals.{accept, refuse, decide, bit1}
 use Rattle.admission.specs.Target.{targetTests, baseOf}
-use Rattle.state.specs.State.{contextOf, isStopped, faultOf, bufferTests, setState, fillWith, getState}
+use Rattle.state.specs.State.{contextOf, isStopped, faultOf, bufferTests, setElements, setState, fillWith, getElements, getState}
 use Rattle.promises.proofs.States.{skip}
 use Rattle.l1.specs.Marks.{allowed, isInput, isReadable, isSpecial}
 use Rattle.l1.specs.Cache.{placeZero, one, valueIn}
@@ -51,17 +51,17 @@ module _ (l : Layout) (so : Sound l) (g v j : ℕ) (below : j < l .slots) (s : L
   abbrev at : ℕ
   at = base l so g v j below
 
-  -- past the tests 1 to 4
+  -- past the tests 1 to 4 and 16
   set-past : setState l s 0 g v (one id w) ≡ firstOf (refuse s []) (bufferTests l s ThreadSet (one id w)) (accept 0 (applied at (one id w) (countOf (one id w)) s))
-  unfolding setState decide
+  unfolding setState setElements decide
   set-past =
-      skip (refuse s []) (targetTests l s bit0 0 false g v) (bufferTests l s ThreadSet (one id w)) (accept 0 (applied (baseOf l s false g v) (one id w) (countOf (one id w)) s)) (ours-target l so g v j below s o)
+      skip (refuse s []) (targetTests l s bit1 0 false g v) (bufferTests l s ThreadSet (one id w)) (accept 0 (applied (baseOf l s false g v) (one id w) (countOf (one id w)) s)) (ours-target l so g v j below s o)
       ∙ ap (λ (b : ℕ). firstOf (refuse s []) (bufferTests l s ThreadSet (one id w)) (accept 0 (applied b (one id w) (countOf (one id w)) s))) (ours-base l so g v j below s o)
 
   get-past : getState l s 0 g v (one id w) ≡ firstOf (refuse s (one id w)) (bufferTests l s ThreadGet (one id w)) (fillWith s at (one id w))
-  unfolding getState decide
+  unfolding getState getElements decide
   get-past =
-      skip (refuse s (one id w)) (targetTests l s bit0 0 false g v) (bufferTests l s ThreadGet (one id w)) (fillWith s (baseOf l s false g v) (one id w)) (ours-target l so g v j below s o)
+      skip (refuse s (one id w)) (targetTests l s bit1 0 false g v) (bufferTests l s ThreadGet (one id w)) (fillWith s (baseOf l s false g v) (one id w)) (ours-target l so g v j below s o)
       ∙ ap (λ (b : ℕ). firstOf (refuse s (one id w)) (bufferTests l s ThreadGet (one id w)) (fillWith s b (one id w))) (ours-base l so g v j below s o)
 
   -- ---- a value that is too long, and a special ID

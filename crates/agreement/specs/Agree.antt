@@ -19,7 +19,7 @@ use Rattle.store.specs.declared.Layout.{Layout}
 use Rattle.store.specs.Layout.{slotBytes}
 use Rattle.store.specs.Header.{header, slotOf}
 use Rattle.store.specs.Store.{wellFormed}
-use Rattle.admission.specs.Target.{baseOf}
+use Rattle.admission.specs.Target.{isAway, baseOf}
 use Rattle.run.specs.Run.{inputSize, outputSize}
 use Rattle.l0.specs.Calls.{Call, outcome}
 use Rattle.promises.specs.History.{registers}
@@ -180,6 +180,8 @@ pub record Start (l : Layout) (guest vcpu : ℕ) (s : List ℕ) (c : Cache) : Ty
   pub formed : wellFormed l s ≡ true
   -- 01, "The L1 cache": "Live: a used slot word names the vCPU."
   pub live : slotOf l (header l s) guest vcpu < l .slots
+  -- 02, L1: the vCPU is "live and not taken"
+  pub here : isAway l s guest vcpu ≡ false
   pub input : goodInput (registeredInput l guest vcpu s) ≡ true
   pub wide : 2424 ≤ registeredInput l guest vcpu s
   pub output : goodOutput (outputSize s (baseOf l s false guest vcpu)) ≡ true

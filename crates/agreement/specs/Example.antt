@@ -3,14 +3,14 @@
 use Prim.Native.Nat.{ℕ, _-_, _^_}
 use mathlib.Core.List.{List, [], _∷_, _++_}
 use Rattle.octets.specs.Bytes.{put, digits, zeros}
-use Rattle.store.specs.Layout.{small}
+use Rattle.store.specs.Layout.{small, slotAt}
 use Rattle.store.specs.Store.{fresh}
 use Rattle.l1.specs.Marks.{Cache}
 
 -- guest 1 with vCPU 0: its live bit, the zero byte and the first slot word; an input of 2,424 bytes and an output of 124 at the start of
 -- slot 0
 unfoldable pub exampleStore : List ℕ
-exampleStore = put (put (fresh small) 8 (0x80 ∷ 0 ∷ 0x88 ∷ 0x00 ∷ [])) 458 (digits 8 0 ++ (digits 8 2424 ++ (digits 8 0 ++ digits 8 124)))
+exampleStore = put (put (fresh small) 8 (0x80 ∷ 0 ∷ 0x88 ∷ 0x00 ∷ [])) (slotAt small 0) (digits 8 0 ++ (digits 8 2424 ++ (digits 8 0 ++ digits 8 124)))
 
 unfoldable pub exampleCache : Cache
 exampleCache = record { values = zeros 1820; marks = zeros 6 }

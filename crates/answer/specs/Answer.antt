@@ -8,7 +8,7 @@ use Rattle.answer.specs.declared.Place.{Place}
 use Rattle.answer.specs.declared.RunBuffer.{RunBuffer}
 use Rattle.answer.specs.declared.RunBuffer.the-variants.{Input, Output}
 use Rattle.answer.specs.declared.Fault.{Fault}
-use Rattle.answer.specs.declared.Fault.the-variants.{None, Store, Flag, Guest, Token, Capability, Vcpu, Length, Element, Room, Exists, Unregistered, Short, Exit, Effect, Cache, InUse}
+use Rattle.answer.specs.declared.Fault.the-variants.{None, Store, Flag, Guest, Token, Capability, Vcpu, Length, Element, Room, Exists, Unregistered, Short, Exit, Effect, Cache, Taken, Form, InUse}
 use Rattle.answer.specs.declared.Call.{Call}
 use Rattle.answer.specs.declared.Call.the-variants.{FreshStore, GetCapabilities, SetCapabilities, CreateGuest, CreateVcpu, GetState, SetState, RunVcpu, DeleteGuest, GuestClock, Lookup, CacheWrite, CacheRead, CacheRun}
 use Rattle.answer.specs.declared.Shown.{Shown}
@@ -60,7 +60,8 @@ three a b c = record { r3 = a; r4 = b; r5 = c }
 abbrev pub withPlace : ℕ → Shown → Registers
 withPlace n p = three n (p .r4) (p .r5)
 
--- The table, row for row; v is what a success tells. "R4 and R5 are 0 where nothing is said."
+-- The table, row for row; v is what a success tells. "R4 and R5 are 0 where nothing is said." Behind 15 stand the rows of 02: L1's "16 in get,
+-- set and run", "17 after 5", and L12's "21 after 3".
 abbrev pub told : Call → Fault → ℕ → Registers
 told c None v = three 0 v 0
 told c Store v = three 1 0 0
@@ -78,6 +79,8 @@ told c (Short buffer) v = three 12 (bufferNumber buffer) 0
 told c Exit v = three 13 0 0
 told c (Effect place) v = withPlace 14 (placeShown c place)
 told c Cache v = three 15 0 0
+told c Taken v = three 16 0 0
+told c Form v = three 17 0 0
 told c InUse v = three 21 0 0
 
 -- 01, "The L1 cache": "Accepted: R3 is 0."

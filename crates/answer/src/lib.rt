@@ -39,6 +39,8 @@ pub enum Fault {
     Exit,
     Effect(Place),
     Cache,
+    Taken,
+    Form,
     InUse,
 }
 
@@ -181,6 +183,8 @@ pub fn registers_of(c: Call, a: Answer) -> Registers
         Fault::Exit => three(13, 0, 0),
         Fault::Effect(place) => with_place(14, place_shown(c, place)),
         Fault::Cache => three(15, 0, 0),
+        Fault::Taken => three(16, 0, 0),
+        Fault::Form => three(17, 0, 0),
         Fault::InUse => three(21, 0, 0),
     }
 }

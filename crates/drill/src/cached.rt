@@ -93,7 +93,7 @@ fn turns(store: &mut [u8], values: &mut [u8], marks: &mut [u64]) -> Seen {
 }
 
 pub fn drill() -> Seen {
-    let mut store = [0u8; 29578];
+    let mut store = [0u8; 29580];
     let mut values = [0u8; 1820];
     let mut marks = [0u64; 6];
     start(&mut store);

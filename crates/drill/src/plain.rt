@@ -17,6 +17,9 @@ use answer::Call;
 use answer::Registers;
 use answer::registers_of;
 
+// Get state and set state with bit 1.
+const HAND_OVER: u64 = 0x4000_0000_0000_0000;
+
 // The NOP and the two run buffers, which no L1 writes or reads.
 fn is_special(id: u16) -> bool {
     if id == 0 {
@@ -71,14 +74,14 @@ fn write(store: &mut [u8], x: u64, digest: u64) -> u64 {
     mix_registers(digest, as_cached(set(store, 1, x)))
 }
 
-fn get(store: &[u8], id: u16, buffer: &mut [u8]) -> Registers {
+fn get(store: &mut [u8], id: u16, buffer: &mut [u8]) -> Registers {
     if is_special(id) {
         return six();
     }
     as_cached(registers_of(Call::GetState, state::get_state(store, 0, 1, 0, buffer)))
 }
 
-fn read(store: &[u8], x: u64, digest: u64) -> u64 {
+fn read(store: &mut [u8], x: u64, digest: u64) -> u64 {
     let e = an_element(x);
     let mut bytes = e.bytes;
     let end = e.end;
@@ -102,8 +105,33 @@ fn run(store: &mut [u8], x: u64, digest: u64) -> u64 {
     mix_run(digest, told, &output, store)
 }
 
-// A call on guest 2, which both L1s make.
+fn take(store: &mut [u8], x: u64, digest: u64) -> u64 {
+    let mut form = [a_byte(x); 1844];
+    let told = registers_of(
+        Call::GetState,
+        state::get_state(store, HAND_OVER, 2, 0, &mut form),
+    );
+    mix_bytes(mix_registers(digest, told), &form)
+}
+
+// With no values, which are then zero.
+fn give(store: &mut [u8]) -> Registers {
+    let form = b"\x10\0\0\0\0\0\0\0\0\0\0\0\0\0\0\0\0\0\0\0\0\0\0\0";
+    registers_of(
+        Call::SetState,
+        state::set_state(store, HAND_OVER, 2, 0, form),
+    )
+}
+
+// A call on guest 2, which both L1s make: a set, or its vCPU is taken or given back.
 pub fn other(store: &mut [u8], x: u64, digest: u64) -> u64 {
+    let kind = x / 524288 % 4;
+    if kind == 0 {
+        return take(store, x, digest);
+    }
+    if kind == 1 {
+        return mix_registers(digest, give(store));
+    }
     mix_registers(digest, set(store, 2, next(x)))
 }
 
@@ -129,7 +157,7 @@ fn turns(store: &mut [u8]) -> u64 {
 }
 
 pub fn drill() -> u64 {
-    let mut store = [0u8; 29578];
+    let mut store = [0u8; 29580];
     start(&mut store);
     turns(&mut store)
 }

@@ -152,7 +152,7 @@ listed-stored id x e s =
 
 -- only the two sizes that 01 fixes are not stored
 pub listed-fixed : (id : ℕ) (x : Entry) → kindOf id ≡ Listed x → isStored id ≡ false
-    → ((id ≡ 0x0001) × (x .source ≡ Fixed 1820)) ⊎ ((id ≡ 0x0002) × (x .source ≡ Fixed 124))
+    → ((id ≡ 0x0001) × (x .source ≡ Fixed 1844)) ⊎ ((id ≡ 0x0002) × (x .source ≡ Fixed 124))
 unfolding sourceOf kindOf
 listed-fixed id x e s =
     let not-nop : id ≡ 0 → ⊥ = λ q. nop-apart x (ap kindOf (sym q) ∙ e) in
@@ -166,7 +166,7 @@ pub source-stored : (id : ℕ) (x : Entry) (p : ℕ) → kindOf id ≡ Listed x 
     → (isStored id ≡ true) × (p ≡ position (x .scope) id)
 source-stored id x p e q =
     by (isStored id) (λ s. let h = listed-stored id x e s in (s, cc))
-    (λ s. absurd (⊎-elim (λ h. fixed-stored 1820 p (sym (h .1) ∙ q)) (λ h. fixed-stored 124 p (sym (h .1) ∙ q)) (listed-fixed id x e s)))
+    (λ s. absurd (⊎-elim (λ h. fixed-stored 1844 p (sym (h .1) ∙ q)) (λ h. fixed-stored 124 p (sym (h .1) ∙ q)) (listed-fixed id x e s)))
 
 pub source-fixed : (id : ℕ) (x : Entry) (n : ℕ) → kindOf id ≡ Listed x → x .source ≡ Fixed n → isStored id ≡ false
 source-fixed id x n e q =

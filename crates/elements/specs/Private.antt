@@ -44,7 +44,7 @@ abbrev pub bytesEach : Row → ℕ
 bytesEach r = bytesIn (r .scope) r
 
 abbrev pub sourceAt : ℕ → ℕ → Source
-sourceAt id p = cond (eqb id 0x0001) (Fixed 1820) (cond (eqb id 0x0002) (Fixed 124) (Stored p))
+sourceAt id p = cond (eqb id 0x0001) (Fixed 1844) (cond (eqb id 0x0002) (Fixed 124) (Stored p))
 
 abbrev pub listedAs : Row → ℕ → ℕ → Kind
 listedAs r id at =

@@ -199,7 +199,8 @@ sameScope Guest Thread = false
 sameScope Thread Guest = false
 sameScope Thread Thread = true
 
--- 01, "The guest state buffer": "0x0001 always reads 1,820 and 0x0002 reads 124"; the values of these two are not stored.
+-- 01, "The guest state buffer": "0x0001 always reads 1,820 and 0x0002 reads 124"; the values of these two are not stored. 02, L1: "0x0001 now
+-- reads 1,844".
 abbrev pub isStored : ℕ → Bool
 isStored id = ltb 0x0002 id
 
@@ -211,7 +212,7 @@ unfoldable pub position : Scope → ℕ → ℕ
 position s id = below (bytesIn s) table id
 
 unfoldable pub sourceOf : Scope → ℕ → Source
-sourceOf s id = cond (eqb id 0x0001) (Fixed 1820) (cond (eqb id 0x0002) (Fixed 124) (Stored (position s id)))
+sourceOf s id = cond (eqb id 0x0001) (Fixed 1844) (cond (eqb id 0x0002) (Fixed 124) (Stored (position s id)))
 
 -- the row that names an ID decides
 unfoldable pub find : List Row → ℕ → Kind

@@ -17,7 +17,7 @@ fn source_at(id: u16, position: usize) -> Source
     ensures { λ r. ⌜ r ≡ sourceAt id position ⌝ }
 {
     if id == 0x0001 {
-        return Source::Fixed(1820);
+        return Source::Fixed(1844);
     }
     if id == 0x0002 {
         return Source::Fixed(124);

@@ -25,11 +25,11 @@ freshStore l s = decide s [] ((not (eqb (length s) (l .size)), Store) ∷ []) (a
 unfoldable pub getCapabilities : Layout → List ℕ → ℕ → Outcome
 getCapabilities l s flags = decide s [] (malformed l s ∷ unsupported 0 flags ∷ []) (accept offered s)
 
--- L12: "Set capabilities is now refused while any guest lives, unless the bitmap equals the agreed one."
+-- 02, L12: "Set capabilities is now refused while any guest lives, unless the bitmap equals the agreed one."
 abbrev pub inUse : Layout → List ℕ → ℕ → Bool
 inUse l s bitmap = anyLive l (header l s) && not (eqb bitmap (capabilitiesOf (header l s)))
 
--- H_GUEST_SET_CAPABILITIES: "others 1, 2, 3", where 3 is "bit not offered", and L12's "21 after 3"; "Set stores the bitmap."
+-- H_GUEST_SET_CAPABILITIES: "others 1, 2, 3", where 3 is "bit not offered", and 02, L12's "21 after 3"; "Set stores the bitmap."
 unfoldable pub setCapabilities : Layout → List ℕ → ℕ → ℕ → Outcome
 setCapabilities l s flags bitmap =
     decide s []
@@ -40,7 +40,7 @@ setCapabilities l s flags bitmap =
 abbrev pub offsetOf : Layout → List ℕ → ℕ → ℕ
 offsetOf l s guest = be s (guestAt l guest + position GuestWide 0x0004) 8
 
--- L2: "KVM rounds an offset up to a multiple of 16,777,216"; "The guest clock now uses the offset rounded up so, wrapping at 2^64"
+-- 02, L2: "KVM rounds an offset up to a multiple of 16,777,216"; "The guest clock now uses the offset rounded up so, wrapping at 2^64"
 abbrev pub roundedUp : ℕ → ℕ
 roundedUp offset = (offset + (2 ^ 24 - 1)) / 2 ^ 24 * 2 ^ 24 % 2 ^ 64
 

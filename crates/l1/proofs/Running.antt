@@ -153,7 +153,7 @@ module _ (s vs ms input output effect : List ℕ) (flags guest vcpu exit : ℕ) 
     passed = judged-passed tests judged
 
     lents : (ltb (length input) (inputSize s base) ≡ false) × (ltb (inputSize s base) (length (message (pending c))) ≡ false)
-    lents = or-false _ _ (passed .1 .1 .1 .1 .1 .1 .0)
+    lents = or-false _ _ (passed .1 .1 .1 .1 .1 .1 .1 .0)
 
     room : length (message (pending c)) ≤ inputSize s base
     room = ltb-false _ _ (lents .1)
@@ -170,10 +170,10 @@ module _ (s vs ms input output effect : List ℕ) (flags guest vcpu exit : ℕ) 
         let p = passed in
         let z : (ltb (length laid) (inputSize s base) || ltb (inputSize s base) 0) ≡ false
         = ap₂ (λ (x y : Bool). x || y) (ap (λ (n : ℕ). ltb n (inputSize s base)) (length-put input 0 (message (pending c))) ∙ lents .0) (le-ltb (inputSize s base) 0 (omega arith)) in
-        (p .0, (p .1 .0, (p .1 .1 .0, (p .1 .1 .1 .0, (p .1 .1 .1 .1 .0, (p .1 .1 .1 .1 .1 .0, (z, (p .1 .1 .1 .1 .1 .1 .1 .0, tt))))))))
+        (p .0, (p .1 .0, (p .1 .1 .0, (p .1 .1 .1 .0, (p .1 .1 .1 .1 .0, (p .1 .1 .1 .1 .1 .0, (p .1 .1 .1 .1 .1 .1 .0, (z, (p .1 .1 .1 .1 .1 .1 .1 .1 .0, tt)))))))))
 
     ends : Passed (exitTests small s effect exit)
-    ends = let p = passed .1 .1 .1 .1 .1 .1 .1 .1 in (p .0, (p .1 .0, (p .1 .1 .0, tt)))
+    ends = let p = passed .1 .1 .1 .1 .1 .1 .1 .1 .1 in (p .0, (p .1 .0, (p .1 .1 .0, tt)))
 
     begun : Begins (inputOf s base laid) (message (pending c))
     begun =

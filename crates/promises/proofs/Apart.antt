@@ -1,21 +1,19 @@
--- THEOREMS `apart-slot`, `apart-values`, `apart-write`: a call on another guest neither sees nor changes the values of a given vCPU, which
--- stays in its slot. Assumes nothing.
+-- THEOREMS `apart-slot`, `apart-mark`, `apart-values`, `apart-write`: a call on another guest neither sees nor changes the values of a
+-- given vCPU, which stays in its slot with its mark. Assumes nothing.
 use mathlib.Core.Path.{_≡_, refl, sym, ap, ap₂, _∙_, subst}
 use mathlib.Core.Logic.{_≢_}
 use mathlib.Core.Bool.{Bool, true, false, not, _&&_, cond}
-use mathlib.Core.List.{List, [], _∷_, _++_}
-use Prim.Native.Nat.{ℕ, zero, suc, _+_, _-_, _*_, _%_, _^_, _≤_, _<_}
-use native.Mathlib.Nat.{zero-add}
+use mathlib.Core.List.{List, [], _∷_}
+use Prim.Native.Nat.{ℕ, zero, suc, _+_, _*_, _%_, _^_, _≤_, _<_}
 use native.Mathlib.Omega.{arith}
 use lib.Dec.{eqb, leb, ltb}
 use lib.ListN.{length}
-use lib.Seq.{ext-getD}
 use borrow.Author.Tests.{eq-eqb, ne-eqb, lt-ltb, leb-true, eqb-true, ltb-true, ltb-false, not-true, not-false}
 use Rattle.octets.specs.Bytes.{bytesAt, put, be, zeros, Clear, left, right}
-use Rattle.octets.specs.Bits.{bit, bits, putBits}
-use Rattle.octets.proofs.Bytes.{clear-sym, clear-part, length-put, length-bytesAt, length-zeros, whole, part-append, getD-bytesAt, put-inside, put-comm, put-same, read-back, read-other}
+use Rattle.octets.specs.Bits.{bit, bits}
+use Rattle.octets.proofs.Bytes.{clear-sym, clear-part, length-bytesAt, length-zeros, put-comm, put-same, read-back, read-other}
 use Rattle.octets.proofs.Numbers.{be-other}
-use Rattle.octets.proofs.Bits.{length-putBits, front-putBits, getD-putBits}
+use Rattle.answer.specs.declared.Answer.{Answer}
 use Rattle.answer.specs.declared.Fault.{Fault}
 use Rattle.answer.specs.Refusals.{firstOf}
 use Rattle.elements.specs.declared.Scope.the-variants.{Guest as GuestWide, Thread}
@@ -39,24 +37,29 @@ use Rattle.gsb.proofs.First.{all-good}
 use Rattle.store.specs.declared.Layout.{Layout}
 use Rattle.store.specs.Layout.{Sound, small, guestBytes, slotBytes, guestAt, slotAt}
 use Rattle.store.specs.Search.{every, first}
-use Rattle.store.specs.Header.{header, capabilitiesOf, live, wordAt, word, wordOf, isUsed, guestOf, holds, lacks, alone, slotGood, headGood, wordsGood, slotHolding, slotOf, freeSlot, isDead, freeGuest}
-use Rattle.store.specs.Store.{wellFormed, fresh, putLive, putWord, withGuest, withVcpu, dropWord, dropWords, withoutGuest, withoutGuests}
+use Rattle.store.specs.Header.{header, capabilitiesOf, live, word, wordOf, isUsed, guestOf, isTaken, holds, lacks, alone, slotGood, headGood, wordsGood, slotHolding, slotOf, freeSlot, isDead, freeGuest}
+use Rattle.store.specs.Store.{wellFormed, fresh, putLive, putSlot, withGuest, withVcpu, dropWord, dropWords, withoutGuest, withoutGuests}
 use Rattle.store.proofs.Search.{no-bool, both, first-bounds, first-found, found-first}
-use Rattle.store.proofs.Readings.{step}
 use Rattle.store.proofs.Tests.{live-parts}
-use Rattle.store.proofs.WordFields.{word-other, live-same, word-live, live-else}
-use Rattle.store.proofs.Frame.{header-full, header-values, header-word, header-live, formed, formed-values}
-use Rattle.store.proofs.Kept.{words-are, drop-less, deleted-else, deleted-other}
+use Rattle.store.proofs.WordFields.{word-live, live-else}
+use Rattle.store.proofs.Marks.{word-slot-else, live-slot}
+use Rattle.store.proofs.Frame.{header-full, header-values, header-slot, header-live, formed, formed-values}
+use Rattle.store.proofs.Beside.{live-write, slot-write}
+use Rattle.store.proofs.Kept.{words-are, drop-less, deleted-else, deleted-other, deleted-mark, guest-mark, vcpu-mark-else}
 use Rattle.transfer.specs.Transfer.{valueAt, putFrom, putAs, applied, readFrom, fillAs, filled}
 use Rattle.exits.specs.Exits.{exits, rowOf, returned, elementOf, valued, outputOf}
 use Rattle.exits.proofs.Written.{allFit, rowFits, rowsFit, exits-fit, fits-row}
-use Rattle.admission.specs.Refusals.{Outcome, success, accept, refuse, decide, hasBit0, Passed}
+use Rattle.admission.specs.Refusals.{Outcome, success, accept, refuse, decide, hasBit0, handsOver, Passed}
 use Rattle.admission.specs.Target.{baseOf}
-use Rattle.state.specs.State.{contextOf, getUse, getState, setUse, setState}
+use Rattle.handover.specs.Form.{form, valuesOf, stateAt, taken}
+use Rattle.state.specs.HandOver.{takeVcpu, giveVcpu}
+use Rattle.state.specs.State.{contextOf, getUse, getElements, getState, setUse, setElements, setState}
+use Rattle.state.proofs.HandOvers.{get-ways, set-ways}
 use Rattle.run.specs.Run.{inputSize, outputSize, inputOf, runTests, ranStore, ran, runVcpu}
 use Rattle.guests.specs.Guests.{createGuest, createVcpu, deleteGuest}
 use Rattle.l0.specs.Calls.{getCapabilities, offsetOf, roundedUp, guestClock, Call, GetCapabilities, SetCapabilities, CreateGuest, CreateVcpu, GetState, SetState, RunVcpu, DeleteGuest, GuestClock, outcome}
 use Rattle.promises.specs.Apart.{Elsewhere}
+use Rattle.promises.proofs.HandedOver.{Placed, slot-placed, word-used, handed, handed-word, handed-live, handed-mark-else, handed-write, take-slotted, give-slotted, given-length}
 use Rattle.promises.proofs.Kept.{decided, applied-header, base-values, well-formed-kept}
 use Rattle.promises.proofs.Runs.{input-walked, effect-walked}
 use Rattle.promises.proofs.States.{walked, get-room, set-room, slots-apart}
@@ -79,52 +82,6 @@ decided-write s q w b tests seen o done e g = ap (λ (xs : List (Bool × Fault))
             → cond t (refuse (put s q w) b (x .1)) (firstOf (refuse (put s q w) b) xs done) ≡ written q w (cond t (refuse s b (x .1)) (firstOf (refuse s b) xs o))
         at true y ih = refl
         at false y ih = ih (λ p. h (y, p))
-
--- ---- a field of the header, written before or after values
--- the bytes from m on don't see it
-field-behind : (s : List ℕ) (a n v m k : ℕ) → a + n ≤ 8 * m → m + k ≤ length s → bytesAt (putBits s a n v) m k ≡ bytesAt s m k
-field-behind s a n v m k inside room =
-    ext-getD 0 (bytesAt (putBits s a n v) m k) (bytesAt s m k) (long ∙ sym (length-bytesAt s m k room))
-    (λ i h. let r : i < k = omega (arith, long) in
-    getD-bytesAt (putBits s a n v) m k i r ∙ getD-putBits s a n v (m + i) (left (omega arith)) ∙ sym (getD-bytesAt s m k i r))
-  where
-    long : length (bytesAt (putBits s a n v) m k) ≡ k
-    long = length-bytesAt (putBits s a n v) m k (omega (arith, length-putBits s a n v))
-
--- a list is its first m bytes and those behind them
-halves : (x y : List ℕ) (m : ℕ) → length x ≡ length y → m ≤ length x → bytesAt x 0 m ≡ bytesAt y 0 m → bytesAt x m (length x - m) ≡ bytesAt y m (length x - m) → x ≡ y
-halves x y m e h a b =
-    let k : length x ≡ m + (length x - m) = omega arith in
-    sym (whole x) ∙ ap (bytesAt x 0) k ∙ split x ∙ ap₂ (λ (u v : List ℕ). u ++ v) a b ∙ sym (split y) ∙ ap (bytesAt y 0) (sym k ∙ e) ∙ whole y
-  where
-    split : (z : List ℕ) → bytesAt z 0 (m + (length x - m)) ≡ bytesAt z 0 m ++ bytesAt z m (length x - m)
-    split z = part-append z 0 m (length x - m) ∙ ap (λ (i : ℕ). bytesAt z 0 m ++ bytesAt z i (length x - m)) (zero-add m)
-
-field-write : (s : List ℕ) (a n v m q : ℕ) (w : List ℕ) → a + n ≤ 8 * m → m ≤ q → q + length w ≤ length s → putBits (put s q w) a n v ≡ put (putBits s a n v) q w
-field-write s a n v m q w inside from upto = halves (putBits (put s q w) a n v) (put t q w) m (long ∙ sym (length-put t q w ∙ length-putBits s a n v)) (omega (arith, long)) front back
-  where
-    t : List ℕ
-    t = putBits s a n v
-
-    long : length (putBits (put s q w) a n v) ≡ length s
-    long = length-putBits (put s q w) a n v ∙ length-put s q w
-
-    k : ℕ
-    k = length (putBits (put s q w) a n v) - m
-
-    front : bytesAt (putBits (put s q w) a n v) 0 m ≡ bytesAt (put t q w) 0 m
-    front =
-        front-putBits (put s q w) m a n v inside ∙ ap (λ (x : List ℕ). putBits x a n v) (read-other s q w 0 m (right (omega arith)))
-        ∙ sym (front-putBits s m a n v inside) ∙ sym (read-other t q w 0 m (right (omega arith)))
-
-    -- the write, from the place m on
-    moved : (x : List ℕ) → bytesAt (put x q w) m k ≡ put (bytesAt x m k) (q - m) w
-    moved x = let e : m + (q - m) ≡ q = omega arith in ap (λ (i : ℕ). bytesAt (put x i w) m k) (sym e) ∙ put-inside x m w (q - m) k (omega (arith, long))
-
-    back : bytesAt (putBits (put s q w) a n v) m k ≡ bytesAt (put t q w) m k
-    back =
-        field-behind (put s q w) a n v m k inside (omega (arith, long, length-put s q w)) ∙ moved s
-        ∙ ap (λ (x : List ℕ). put x (q - m) w) (sym (field-behind s a n v m k inside (omega (arith, long)))) ∙ sym (moved t)
 
 -- ---- what is moved to and from other values
 -- an accepted buffer, and values at base that a write into q.. does not meet
@@ -207,26 +164,6 @@ module _ (base q : ℕ) (w : List ℕ) (c : Clear base slotBytes q (length w)) w
   output-write s exit = ap message (valued-write s (returned exit) (rows-fit exits exit exits-fit))
 
 -- ---- the slot of a vCPU
-record Placed (l : Layout) (h : List ℕ) (g v j : ℕ) : Type 0 where
-  alive : live l h g ≡ true
-  low : v < 2048
-  named : word l h j ≡ wordOf l g v
-
-slot-placed : (l : Layout) (h : List ℕ) (g v j : ℕ) → slotOf l h g v ≡ j → j < l .slots → Placed l h g v j
-unfolding slotOf slotHolding holds
-slot-placed l h g v j e k = go (live l h g) (ltb v 2048) refl refl e
-  where
-    go : (a b : Bool) → live l h g ≡ a → ltb v 2048 ≡ b → cond (a && b) (first (holds l h (wordOf l g v)) (l .slots) 0) (l .slots) ≡ j → Placed l h g v j
-    go true true p r z =
-        let f = first-found (holds l h (wordOf l g v)) (l .slots) 0 (omega (arith, z)) in
-        record { alive = p; low = ltb-true _ _ r; named = ap (word l h) (sym z) ∙ eqb-true _ _ (f .has) }
-    go true false p r z = absurd (omega arith)
-    go false b p r z = absurd (omega arith)
-
-word-used : (l : Layout) → Sound l → (g v : ℕ) → wordOf l g v ≢ 0
-unfolding wordOf
-word-used l so g v z = omega (arith, so .nameable)
-
 -- no other slot has the word, since the store is well formed
 placed-slot : (l : Layout) → Sound l → (t : List ℕ) → wellFormed l t ≡ true → (g v j : ℕ) → j < l .slots → Placed l (header l t) g v j → slotOf l (header l t) g v ≡ j
 unfolding slotOf slotHolding holds
@@ -258,14 +195,16 @@ module _ (l : Layout) (so : Sound l) (s : List ℕ) (good : wellFormed l s ≡ t
   ours : Placed l (header l s) g v j
   ours = slot-placed l (header l s) g v j found below
 
-  -- the vCPU's guest and its word, in what a call leaves
+  -- the vCPU's guest, its word and its mark, in what a call leaves
   record Keeps (o : Outcome) : Type 0 where
     alive : live l (header l (o .store)) g ≡ live l (header l s) g
     named : word l (header l (o .store)) j ≡ word l (header l s) j
+    marked : isTaken l (header l (o .store)) j ≡ isTaken l (header l s) j
 
   -- a call that leaves the header
   keeps-header : (o : Outcome) → header l (o .store) ≡ header l s → Keeps o
-  keeps-header o e = record { alive = ap (λ (h : List ℕ). live l h g) e; named = ap (λ (h : List ℕ). word l h j) e }
+  keeps-header o e =
+      record { alive = ap (λ (h : List ℕ). live l h g) e; named = ap (λ (h : List ℕ). word l h j) e; marked = ap (λ (h : List ℕ). isTaken l h j) e }
 
   kept : (b : List ℕ) (f : Fault) → Keeps (refuse s b f)
   kept b f = keeps-header (refuse s b f) refl
@@ -286,15 +225,39 @@ module _ (l : Layout) (so : Sound l) (s : List ℕ) (good : wellFormed l s ≡ t
   unfolding guestClock
   clock-keeps guest timebase = decided Keeps s [] _ _ (kept []) (λ p. keeps-header _ refl)
 
-  get-keeps : (flags guest vcpu : ℕ) (b : List ℕ) → Keeps (getState l s flags guest vcpu b)
-  unfolding getState
-  get-keeps flags guest vcpu b = decided Keeps s b _ _ (kept b) (λ p. keeps-header _ refl)
+  got-keeps : (flags guest vcpu : ℕ) (b : List ℕ) → Keeps (getElements l s flags guest vcpu b)
+  unfolding getElements
+  got-keeps flags guest vcpu b = decided Keeps s b _ _ (kept b) (λ p. keeps-header _ refl)
 
-  set-keeps : (flags guest vcpu : ℕ) (b : List ℕ) → Keeps (setState l s flags guest vcpu b)
-  unfolding setState
-  set-keeps flags guest vcpu b =
+  elements-keeps : (flags guest vcpu : ℕ) (b : List ℕ) → Keeps (setElements l s flags guest vcpu b)
+  unfolding setElements
+  elements-keeps flags guest vcpu b =
       decided Keeps s [] _ _ (kept [])
       (λ p. keeps-header _ (applied-header l so (baseOf l s (hasBit0 flags) guest vcpu) b (countOf b) s (base-values l so s (hasBit0 flags) guest vcpu)))
+
+  -- a hand-over of another guest's vCPU
+  handed-keeps : (a : Answer) (k : ℕ) (w c : List ℕ) (b : ℕ) → k < l .slots → k ≢ j → Keeps (record { answer = a; store = handed l s k w b; buffer = c })
+  handed-keeps a k w c b h n = record {
+    alive = handed-live l so s k h w b long g;
+    named = handed-word l so s k h w b long j below;
+    marked = handed-mark-else l so s k h w b long j (λ z. n (sym z));
+  }
+
+  take-keeps : (guest vcpu : ℕ) (b : List ℕ) → guest ≢ g → Keeps (takeVcpu l s guest vcpu b)
+  unfolding takeVcpu taken
+  take-keeps guest vcpu b n =
+      decided Keeps s b _ _ (kept b) (λ p. handed-keeps _ _ (zeros slotBytes) _ 1 (take-slotted l s guest vcpu b p .below) (slot-other guest vcpu n))
+
+  give-keeps : (guest vcpu : ℕ) (b : List ℕ) → guest ≢ g → Keeps (giveVcpu l s guest vcpu b)
+  unfolding giveVcpu
+  give-keeps guest vcpu b n =
+      decided Keeps s [] _ _ (kept []) (λ p. handed-keeps _ _ (valuesOf b) _ 0 (give-slotted l s guest vcpu b p .below) (slot-other guest vcpu n))
+
+  get-keeps : (flags guest vcpu : ℕ) (b : List ℕ) → guest ≢ g → Keeps (getState l s flags guest vcpu b)
+  get-keeps flags guest vcpu b n = get-ways l s flags guest vcpu b Keeps (λ e. got-keeps flags guest vcpu b) (λ t. take-keeps guest vcpu b n)
+
+  set-keeps : (flags guest vcpu : ℕ) (b : List ℕ) → guest ≢ g → Keeps (setState l s flags guest vcpu b)
+  set-keeps flags guest vcpu b n = set-ways l s flags guest vcpu b Keeps (λ e. elements-keeps flags guest vcpu b) (λ t. give-keeps guest vcpu b n)
 
   run-keeps : (flags guest vcpu : ℕ) (input output effect : List ℕ) (exit : ℕ) → Keeps (runVcpu l s flags guest vcpu input output effect exit)
   unfolding runVcpu ran ranStore
@@ -313,6 +276,7 @@ module _ (l : Layout) (so : Sound l) (s : List ℕ) (good : wellFormed l s ≡ t
       record {
         alive = ap (λ (h : List ℕ). live l h g) e ∙ live-else l so (header l s) full k lo hi 1 g (λ z. no-bool (sym dead ∙ ap (live l (header l s)) (sym z) ∙ ours .alive));
         named = ap (λ (h : List ℕ). word l h j) e ∙ word-live l so (header l s) full k lo hi 1 j;
+        marked = guest-mark l so s good j below k lo hi;
       }
 
   guest-keeps : (flags token : ℕ) → Keeps (createGuest l s flags token)
@@ -331,10 +295,11 @@ module _ (l : Layout) (so : Sound l) (s : List ℕ) (good : wellFormed l s ≡ t
   unfolding withVcpu
   vcpu-made a guest vcpu h n =
       let u = wordOf l guest vcpu in
-      let e : header l (withVcpu l s a guest vcpu) ≡ putWord l (header l s) a u = header-values l so (putWord l s a u) (slotAt l a) (zeros slotBytes) (omega (arith, so .guests-fit)) ∙ header-word l so s a u h in
+      let e : header l (withVcpu l s a guest vcpu) ≡ putSlot l (header l s) a u = header-values l so (putSlot l s a u) (slotAt l a) (zeros slotBytes) (omega (arith, so .guests-fit)) ∙ header-slot l so s a u h in
       record {
-        alive = ap (λ (x : List ℕ). live l x g) e ∙ live-same l so (header l s) full a h u g;
-        named = ap (λ (x : List ℕ). word l x j) e ∙ word-other l so (header l s) full a h u j (λ z. n (sym z));
+        alive = ap (λ (x : List ℕ). live l x g) e ∙ live-slot l so (header l s) full a h u g;
+        named = ap (λ (x : List ℕ). word l x j) e ∙ word-slot-else l so (header l s) full a h u j below (λ z. n (sym z));
+        marked = vcpu-mark-else l so s good j below a guest vcpu h (λ z. n (sym z));
       }
 
   vcpu-keeps : (flags guest vcpu : ℕ) → Keeps (createVcpu l s flags guest vcpu)
@@ -356,7 +321,11 @@ module _ (l : Layout) (so : Sound l) (s : List ℕ) (good : wellFormed l s ≡ t
       go true e x = absurd (no-bool (sym e))
       go false e x =
           let lv = not-false _ x in
-          record { alive = deleted-else l so s good guest lv g (λ z. n (sym z)); named = deleted-other l so s good guest lv j (λ z. n (sym z ∙ ours-guest)) }
+          record {
+            alive = deleted-else l so s good guest lv g (λ z. n (sym z));
+            named = deleted-other l so s good guest lv j below (λ z. n (sym z ∙ ours-guest));
+            marked = deleted-mark l so s good guest lv j below (λ z. n (sym z ∙ ours-guest));
+          }
 
   keeps : (c : Call) → Elsewhere g c → Keeps (outcome l s c)
   unfolding outcome
@@ -364,8 +333,8 @@ module _ (l : Layout) (so : Sound l) (s : List ℕ) (good : wellFormed l s ≡ t
   keeps (SetCapabilities flags bitmap) n = absurd n
   keeps (CreateGuest flags token) n = guest-keeps flags token
   keeps (CreateVcpu flags guest vcpu) n = vcpu-keeps flags guest vcpu
-  keeps (GetState flags guest vcpu buffer) n = get-keeps flags guest vcpu buffer
-  keeps (SetState flags guest vcpu buffer) n = set-keeps flags guest vcpu buffer
+  keeps (GetState flags guest vcpu buffer) n = get-keeps flags guest vcpu buffer n
+  keeps (SetState flags guest vcpu buffer) n = set-keeps flags guest vcpu buffer n
   keeps (RunVcpu flags guest vcpu input output effect exit) n = run-keeps flags guest vcpu input output effect exit
   keeps (DeleteGuest flags guest) n = delete-keeps flags guest (n .0) (n .1)
   keeps (GuestClock guest timebase) n = clock-keeps guest timebase
@@ -374,6 +343,9 @@ module _ (l : Layout) (so : Sound l) (s : List ℕ) (good : wellFormed l s ≡ t
   apart-slot c n =
       let k = keeps c n in
       placed-slot l so (outcome l s c .store) (well-formed-kept l so s good c) g v j below (record { alive = k .alive ∙ ours .alive; low = ours .low; named = k .named ∙ ours .named })
+
+  pub apart-mark : (c : Call) → Elsewhere g c → isTaken l (header l (outcome l s c .store)) j ≡ isTaken l (header l s) j
+  apart-mark c n = keeps c n .marked
 
   -- ---- a write into the slot's values, before or after the call
   module _ (q : ℕ) (w : List ℕ) (from : slotAt l j ≤ q) (upto : q + length w ≤ slotAt l j + slotBytes) where
@@ -422,22 +394,20 @@ module _ (l : Layout) (so : Sound l) (s : List ℕ) (good : wellFormed l s ≡ t
 
     -- fields of the header, in a store t of the same length
     module _ (t : List ℕ) (same : length t ≡ length s) where
-      live-write : (k b : ℕ) → k ≤ l .guests → putLive (put t q w) k b ≡ put (putLive t k b) q w
-      unfolding putLive
-      live-write k b hi = field-write t (63 + k) 1 b (l .«guests_at») q w (omega (arith, so .head, so .words)) behind (omega (arith, room))
+      live-beside : (k b : ℕ) → k ≤ l .guests → putLive (put t q w) k b ≡ put (putLive t k b) q w
+      live-beside = live-write l so t q w behind (omega (arith, room))
 
-      word-write : (a u : ℕ) → a < l .slots → putWord l (put t q w) a u ≡ put (putWord l t a u) q w
-      unfolding putWord
-      word-write a u h = field-write t (wordAt l a) (l .width) u (l .«guests_at») q w (omega (arith, step (l .width) a (l .slots) h, so .words)) behind (omega (arith, room))
+      slot-beside : (a u : ℕ) → a < l .slots → putSlot l (put t q w) a u ≡ put (putSlot l t a u) q w
+      slot-beside = slot-write l so t q w behind (omega (arith, room))
 
       drop-write : (guest a : ℕ) → a < l .slots → dropWord l guest a (put t q w) ≡ put (dropWord l guest a t) q w
       unfolding dropWord
       drop-write guest a h =
-          ap (λ (x : List ℕ). cond (eqb (guestOf l (word l x a)) guest) (putWord l (put t q w) a 0) (put t q w)) (header-values l so t q w behind)
+          ap (λ (x : List ℕ). cond (eqb (guestOf l (word l x a)) guest) (putSlot l (put t q w) a 0) (put t q w)) (header-values l so t q w behind)
           ∙ go (eqb (guestOf l (word l (header l t) a)) guest)
         where
-          go : (x : Bool) → cond x (putWord l (put t q w) a 0) (put t q w) ≡ put (cond x (putWord l t a 0) t) q w
-          go true = word-write a 0 h
+          go : (x : Bool) → cond x (putSlot l (put t q w) a 0) (put t q w) ≡ put (cond x (putSlot l t a 0) t) q w
+          go true = slot-beside a 0 h
           go false = refl
 
     -- values that are zeroed
@@ -446,7 +416,7 @@ module _ (l : Layout) (so : Sound l) (s : List ℕ) (good : wellFormed l s ≡ t
 
     made-guest : (k : ℕ) → 1 ≤ k → k ≤ l .guests → withGuest l (put s q w) k ≡ put (withGuest l s k) q w
     unfolding withGuest
-    made-guest k lo hi = ap (λ (t : List ℕ). put t (guestAt l k) (zeros guestBytes)) (live-write s refl k 1 hi) ∙ zeros-write (putLive s k 1) (guestAt l k) guestBytes (guest-clear k lo hi)
+    made-guest k lo hi = ap (λ (t : List ℕ). put t (guestAt l k) (zeros guestBytes)) (live-beside s refl k 1 hi) ∙ zeros-write (putLive s k 1) (guestAt l k) guestBytes (guest-clear k lo hi)
 
     guest-write : (flags token : ℕ) → createGuest l (put s q w) flags token ≡ written q w (createGuest l s flags token)
     unfolding createGuest freeGuest
@@ -457,7 +427,7 @@ module _ (l : Layout) (so : Sound l) (s : List ℕ) (good : wellFormed l s ≡ t
     made-vcpu : (a guest vcpu : ℕ) → a < l .slots → a ≢ j → withVcpu l (put s q w) a guest vcpu ≡ put (withVcpu l s a guest vcpu) q w
     unfolding withVcpu
     made-vcpu a guest vcpu h n =
-        ap (λ (t : List ℕ). put t (slotAt l a) (zeros slotBytes)) (word-write s refl a (wordOf l guest vcpu) h) ∙ zeros-write (putWord l s a (wordOf l guest vcpu)) (slotAt l a) slotBytes (slot-clear a n)
+        ap (λ (t : List ℕ). put t (slotAt l a) (zeros slotBytes)) (slot-beside s refl a (wordOf l guest vcpu) h) ∙ zeros-write (putSlot l s a (wordOf l guest vcpu)) (slotAt l a) slotBytes (slot-clear a n)
 
     vcpu-write : (flags guest vcpu : ℕ) → createVcpu l (put s q w) flags guest vcpu ≡ written q w (createVcpu l s flags guest vcpu)
     unfolding createVcpu
@@ -477,7 +447,7 @@ module _ (l : Layout) (so : Sound l) (s : List ℕ) (good : wellFormed l s ≡ t
     unfolding withoutGuest
     left-guest guest hi =
         ap (λ (t : List ℕ). putLive t guest 0) (drops-write guest (l .slots) (omega arith))
-        ∙ live-write (dropWords l guest (l .slots) s) (drop-less l so s good guest (l .slots) (omega arith) .long) guest 0 hi
+        ∙ live-beside (dropWords l guest (l .slots) s) (drop-less l so s good guest (l .slots) (omega arith) .long) guest 0 hi
 
     delete-write : (flags guest : ℕ) → hasBit0 flags ≡ false → deleteGuest l (put s q w) flags guest ≡ written q w (deleteGuest l s flags guest)
     unfolding deleteGuest
@@ -498,9 +468,9 @@ module _ (l : Layout) (so : Sound l) (s : List ℕ) (good : wellFormed l s ≡ t
     base-clear true guest vcpu n lv = let b = live-parts l (header l s) guest lv in guest-clear guest (b .0) (b .1)
     base-clear false guest vcpu n lv = slot-clear (slotOf l (header l s) guest vcpu) (slot-other guest vcpu n)
 
-    get-write : (flags guest vcpu : ℕ) (b : List ℕ) → guest ≢ g → getState l (put s q w) flags guest vcpu b ≡ written q w (getState l s flags guest vcpu b)
-    unfolding getState
-    get-write flags guest vcpu b n =
+    got-write : (flags guest vcpu : ℕ) (b : List ℕ) → guest ≢ g → getElements l (put s q w) flags guest vcpu b ≡ written q w (getElements l s flags guest vcpu b)
+    unfolding getElements
+    got-write flags guest vcpu b n =
         decided-write s q w b _ _ _ _ (rw (formed-same, header-same))
         (λ p. let wide = hasBit0 flags in
         let c = subst (λ (m : ℕ). Clear (baseOf l s wide guest vcpu) m q (length w)) (sym (get-room l s flags guest vcpu b)) (base-clear wide guest vcpu n (not-false _ (p .1 .1 .0))) in
@@ -508,14 +478,52 @@ module _ (l : Layout) (so : Sound l) (s : List ℕ) (good : wellFormed l s ≡ t
         (ap (λ (x : List ℕ). record { answer = success 0; store = put s q w; buffer = x })
         (filled-write (contextOf l s (getUse wide)) (baseOf l s wide guest vcpu) b (walked l s flags guest vcpu b (getUse wide) p) q w c (countOf b) (omega arith) s)))
 
-    set-write : (flags guest vcpu : ℕ) (b : List ℕ) → guest ≢ g → setState l (put s q w) flags guest vcpu b ≡ written q w (setState l s flags guest vcpu b)
-    unfolding setState
-    set-write flags guest vcpu b n =
+    elements-write : (flags guest vcpu : ℕ) (b : List ℕ) → guest ≢ g → setElements l (put s q w) flags guest vcpu b ≡ written q w (setElements l s flags guest vcpu b)
+    unfolding setElements
+    elements-write flags guest vcpu b n =
         decided-write s q w [] _ _ _ _ (rw (formed-same, header-same))
         (λ p. let wide = hasBit0 flags in
         let c = subst (λ (m : ℕ). Clear (baseOf l s wide guest vcpu) m q (length w)) (sym (set-room l s flags guest vcpu b)) (base-clear wide guest vcpu n (not-false _ (p .1 .1 .0))) in
         rw (base-same wide guest vcpu)
         (ap (accept 0) (applied-write (contextOf l s (setUse wide)) (baseOf l s wide guest vcpu) b (walked l s flags guest vcpu b (setUse wide) p) q w c (countOf b) (omega arith) s)))
+
+    -- another guest's vCPU handed over
+    handed-same : (guest vcpu : ℕ) (v : List ℕ) (b : ℕ) → guest ≢ g → slotOf l (header l s) guest vcpu < l .slots → length v ≡ slotBytes
+        → handed l (put s q w) (slotOf l (header l s) guest vcpu) v b ≡ put (handed l s (slotOf l (header l s) guest vcpu) v b) q w
+    handed-same guest vcpu v b n k len = handed-write l so s _ k v b long len q w behind room (slot-clear _ (slot-other guest vcpu n))
+
+    state-same : (guest vcpu : ℕ) → guest ≢ g → stateAt (put s q w) (slotAt l (slotOf l (header l s) guest vcpu)) ≡ stateAt s (slotAt l (slotOf l (header l s) guest vcpu))
+    state-same guest vcpu n = read-other s q w (slotAt l (slotOf l (header l s) guest vcpu)) slotBytes (clear-sym (slot-clear _ (slot-other guest vcpu n)))
+
+    take-write : (guest vcpu : ℕ) (b : List ℕ) → guest ≢ g → takeVcpu l (put s q w) guest vcpu b ≡ written q w (takeVcpu l s guest vcpu b)
+    unfolding takeVcpu taken
+    take-write guest vcpu b n =
+        decided-write s q w b _ _ _ _ (rw (formed-same, header-same))
+        (λ p. rw header-same
+        (ap₂ (λ (x y : List ℕ). record { answer = success 0; store = x; buffer = put b 0 (form vcpu y) })
+        (handed-same guest vcpu (zeros slotBytes) 1 n (take-slotted l s guest vcpu b p .below) (length-zeros slotBytes)) (state-same guest vcpu n)))
+
+    give-write : (guest vcpu : ℕ) (b : List ℕ) → guest ≢ g → giveVcpu l (put s q w) guest vcpu b ≡ written q w (giveVcpu l s guest vcpu b)
+    unfolding giveVcpu
+    give-write guest vcpu b n =
+        decided-write s q w [] _ _ _ _ (rw (formed-same, header-same))
+        (λ p. rw header-same (ap (accept 0) (handed-same guest vcpu (valuesOf b) 0 n (give-slotted l s guest vcpu b p .below) (given-length l s guest vcpu b p))))
+
+    get-write : (flags guest vcpu : ℕ) (b : List ℕ) → guest ≢ g → getState l (put s q w) flags guest vcpu b ≡ written q w (getState l s flags guest vcpu b)
+    unfolding getState
+    get-write flags guest vcpu b n = go (handsOver flags)
+      where
+        go : (t : Bool) → cond t (takeVcpu l (put s q w) guest vcpu b) (getElements l (put s q w) flags guest vcpu b) ≡ written q w (cond t (takeVcpu l s guest vcpu b) (getElements l s flags guest vcpu b))
+        go true = take-write guest vcpu b n
+        go false = got-write flags guest vcpu b n
+
+    set-write : (flags guest vcpu : ℕ) (b : List ℕ) → guest ≢ g → setState l (put s q w) flags guest vcpu b ≡ written q w (setState l s flags guest vcpu b)
+    unfolding setState
+    set-write flags guest vcpu b n = go (handsOver flags)
+      where
+        go : (t : Bool) → cond t (giveVcpu l (put s q w) guest vcpu b) (setElements l (put s q w) flags guest vcpu b) ≡ written q w (cond t (giveVcpu l s guest vcpu b) (setElements l s flags guest vcpu b))
+        go true = give-write guest vcpu b n
+        go false = elements-write flags guest vcpu b n
 
     -- ---- run
     module _ (flags guest vcpu : ℕ) (input output effect : List ℕ) (exit : ℕ) (n : guest ≢ g) where
@@ -590,5 +598,5 @@ abbrev sample : List ℕ
 sample = put (fresh small) 8 (0xE0 ∷ 0 ∷ 0x9F ∷ 0xFF ∷ 0x88 ∷ 0x00 ∷ [])
 
 met : (wellFormed small sample ≡ true) × (slotOf small (header small sample) 3 2047 ≡ 0) × (slotOf small (header small sample) 1 0 ≡ 1)
-unfolding wellFormed fresh zeros put header bytesAt headGood capabilitiesOf be wordsGood every slotGood isUsed guestOf alone lacks live slotOf slotHolding first holds wordOf word bits bit
+unfolding wellFormed fresh zeros put header bytesAt headGood capabilitiesOf be wordsGood every slotGood isUsed guestOf isTaken alone lacks live slotOf slotHolding first holds wordOf word bits bit
 met = (refl, refl, refl)

@@ -1,5 +1,5 @@
 -- THEOREMS of the written rules: `refused-unchanged`, `fresh-unchanged`, `well-formed-kept`, `fresh-history`. Assumes nothing.
-use mathlib.Core.Path.{_≡_, refl, ap₂, _∙_}
+use mathlib.Core.Path.{_≡_, refl, ap, ap₂, _∙_}
 use mathlib.Core.Bool.{Bool, true, false, not, _&&_, cond}
 use mathlib.Core.List.{List, [], _∷_}
 use Prim.Native.Nat.{ℕ, zero, suc, _+_, _≤_}
@@ -10,7 +10,7 @@ use Rattle.answer.specs.declared.Call.{Call as Name}
 use Rattle.answer.specs.declared.Fault.{Fault}
 use Rattle.answer.specs.declared.Fault.the-variants.{None}
 use Rattle.store.specs.declared.Layout.{Layout}
-use Rattle.store.specs.Layout.{Sound, small}
+use Rattle.store.specs.Layout.{Sound, small, slotBytes}
 use Rattle.store.specs.Header.{header, live, isDead, freeGuest, headGood, wordsGood}
 use Rattle.store.specs.Store.{wellFormed, fresh, withoutGuest, withoutGuests}
 use Rattle.store.proofs.Search.{first-bounds}
@@ -29,12 +29,17 @@ use Rattle.admission.specs.Refusals.{Outcome, accept, refuse, decide, hasBit0, 
 use Rattle.guests.specs.Guests.{createGuest, createVcpu, deleteGuest}
 use Rattle.l0.specs.Calls.{freshStore, getCapabilities, setCapabilities, guestClock, Call, GetCapabilities, SetCapabilities, CreateGuest, CreateVcpu, GetState, SetState, RunVcpu, DeleteGuest, GuestClock, outcome, after}
 use Rattle.admission.specs.Target.{baseOf}
-use Rattle.state.specs.State.{getState, setState}
+use Rattle.octets.specs.Bytes.{zeros}
+use Rattle.handover.specs.Form.{valuesOf}
+use Rattle.state.specs.HandOver.{takeVcpu, giveVcpu}
+use Rattle.state.specs.State.{getElements, getState, setElements, setState}
+use Rattle.state.proofs.HandOvers.{get-ways, set-ways}
 use Rattle.run.specs.Run.{inputOf, runVcpu, ran, ranStore}
 use Rattle.admission.proofs.Judging.{each-way}
 use Rattle.promises.specs.History.{nameOf}
 use Rattle.promises.specs.Promised.{Unchanged, lent}
 use Rattle.promises.proofs.Told.{refused-fault}
+use Rattle.promises.proofs.HandedOver.{take-slotted, give-slotted, slotted-word, take-leaves, handed-formed}
 
 -- P of a call, from each refusal and from what it does where no test holds
 pub decided : (P : Outcome → Type 0) (s b : List ℕ) (tests : List (Bool × Fault)) (o : Outcome) → ((f : Fault) → P (refuse s b f)) → (Passed tests → P o) → P (decide s b tests o)
@@ -53,13 +58,15 @@ settled : (c : Name) (s b : List ℕ) (tests : List (Bool × Fault)) (o : Outcom
 settled c s b tests o e = decided (Unchanged c s b) s b tests o (kept c s b) (λ p. done c s b o (e p))
 
 pub refused-unchanged : (l : Layout) (s : List ℕ) (c : Call) → Unchanged (nameOf c) s (lent c) (outcome l s c)
-unfolding outcome getCapabilities setCapabilities createGuest createVcpu getState setState runVcpu ran deleteGuest guestClock
+unfolding outcome getCapabilities setCapabilities createGuest createVcpu getElements setElements takeVcpu giveVcpu runVcpu ran deleteGuest guestClock
 refused-unchanged l s (GetCapabilities flags) = settled Name.GetCapabilities s [] _ _ (λ p. refl)
 refused-unchanged l s (SetCapabilities flags bitmap) = settled Name.SetCapabilities s [] _ _ (λ p. refl)
 refused-unchanged l s (CreateGuest flags token) = settled Name.CreateGuest s [] _ _ (λ p. refl)
 refused-unchanged l s (CreateVcpu flags guest vcpu) = settled Name.CreateVcpu s [] _ _ (λ p. refl)
-refused-unchanged l s (GetState flags guest vcpu buffer) = settled Name.GetState s buffer _ _ (λ p. refl)
-refused-unchanged l s (SetState flags guest vcpu buffer) = settled Name.SetState s [] _ _ (λ p. refl)
+refused-unchanged l s (GetState flags guest vcpu buffer) =
+    get-ways l s flags guest vcpu buffer (Unchanged Name.GetState s buffer) (λ e. settled Name.GetState s buffer _ _ (λ p. refl)) (λ t. settled Name.GetState s buffer _ _ (λ p. refl))
+refused-unchanged l s (SetState flags guest vcpu buffer) =
+    set-ways l s flags guest vcpu buffer (Unchanged Name.SetState s []) (λ e. settled Name.SetState s [] _ _ (λ p. refl)) (λ t. settled Name.SetState s [] _ _ (λ p. refl))
 refused-unchanged l s (RunVcpu flags guest vcpu input output effect exit) = settled Name.RunVcpu s output _ _ (λ p. refl)
 refused-unchanged l s (DeleteGuest flags guest) = settled Name.DeleteGuest s [] _ _ (λ p. refl)
 refused-unchanged l s (GuestClock guest timebase) = settled Name.GuestClock s [] _ _ (λ p. refl)
@@ -131,15 +138,35 @@ module _ (l : Layout) (so : Sound l) (s : List ℕ) (good : wellFormed l s ≡ t
   unfolding setCapabilities
   caps-stay flags bitmap = decided (Stays l) s [] _ _ same (λ p. record { formed = caps-kept l so s good bitmap (eqb-true _ _ (not-false _ (p .1 .1 .0))) })
 
-  set-stays : (flags guest vcpu : ℕ) (b : List ℕ) → Stays l (setState l s flags guest vcpu b)
-  unfolding setState
-  set-stays flags guest vcpu b =
+  -- either hand-over
+  take-stays : (guest vcpu : ℕ) (b : List ℕ) → Stays l (takeVcpu l s guest vcpu b)
+  unfolding takeVcpu
+  take-stays guest vcpu b =
+      decided (Stays l) s b _ _ (same-with b)
+      (λ p. let f = take-slotted l s guest vcpu b p in
+      record { formed = ap (wellFormed l) (take-leaves l s guest vcpu b) ∙ handed-formed l so s _ (f .below) (zeros slotBytes) 1 good (slotted-word l s guest vcpu so f) })
+
+  give-stays : (guest vcpu : ℕ) (b : List ℕ) → Stays l (giveVcpu l s guest vcpu b)
+  unfolding giveVcpu
+  give-stays guest vcpu b =
+      decided (Stays l) s [] _ _ same
+      (λ p. let f = give-slotted l s guest vcpu b p in record { formed = handed-formed l so s _ (f .below) (valuesOf b) 0 good (slotted-word l s guest vcpu so f) })
+
+  elements-stay : (flags guest vcpu : ℕ) (b : List ℕ) → Stays l (setElements l s flags guest vcpu b)
+  unfolding setElements
+  elements-stay flags guest vcpu b =
       decided (Stays l) s [] _ _ same
       (λ p. record { formed = applied-kept l so (baseOf l s (hasBit0 flags) guest vcpu) b (countOf b) s (base-values l so s (hasBit0 flags) guest vcpu) ∙ good })
 
+  set-stays : (flags guest vcpu : ℕ) (b : List ℕ) → Stays l (setState l s flags guest vcpu b)
+  set-stays flags guest vcpu b = set-ways l s flags guest vcpu b (Stays l) (λ e. elements-stay flags guest vcpu b) (λ t. give-stays guest vcpu b)
+
+  got-stays : (flags guest vcpu : ℕ) (b : List ℕ) → Stays l (getElements l s flags guest vcpu b)
+  unfolding getElements
+  got-stays flags guest vcpu b = decided (Stays l) s b _ _ (same-with b) (λ p. record { formed = good })
+
   get-stays : (flags guest vcpu : ℕ) (b : List ℕ) → Stays l (getState l s flags guest vcpu b)
-  unfolding getState
-  get-stays flags guest vcpu b = decided (Stays l) s b _ _ (same-with b) (λ p. record { formed = good })
+  get-stays flags guest vcpu b = get-ways l s flags guest vcpu b (Stays l) (λ e. got-stays flags guest vcpu b) (λ t. take-stays guest vcpu b)
 
   run-stays : (flags guest vcpu : ℕ) (input output effect : List ℕ) (exit : ℕ) → Stays l (runVcpu l s flags guest vcpu input output effect exit)
   unfolding runVcpu ran ranStore

@@ -1,8 +1,10 @@
 pub mod Told
+pub mod HandedOver
 pub mod Kept
 pub mod Lowest
 pub mod States
 pub mod ReadBack
+pub mod HandOvers
 pub mod Runs
 pub mod Lookups
 pub mod Used

@@ -19,11 +19,12 @@ use Rattle.store.specs.declared.Layout.{Layout}
 use Rattle.store.specs.Layout.{Sound, guestAt, slotAt, guestBytes, slotBytes}
 use Rattle.store.specs.Search.{first}
 use Rattle.store.specs.Header.{header, live, word, wordOf, holds, slotHolding, slotOf, freeSlot, isDead, freeGuest, guestOf}
-use Rattle.store.specs.Store.{wellFormed, putLive, putWord, withGuest, withVcpu, withoutGuest, noWords, noGuests, withoutGuests}
+use Rattle.store.specs.Store.{wellFormed, putLive, putSlot, withGuest, withVcpu, withoutGuest, noWords, noGuests, withoutGuests}
 use Rattle.store.proofs.Search.{no-bool, first-found, found-first, first-bounds, first-none, first-le}
 use Rattle.store.proofs.Tests.{of-found, live-parts}
-use Rattle.store.proofs.WordFields.{word-same, word-other, live-same, live-here, live-else}
-use Rattle.store.proofs.Frame.{header-full, header-values, header-word, header-live, formed}
+use Rattle.store.proofs.WordFields.{live-here, live-else}
+use Rattle.store.proofs.Marks.{word-slot, word-slot-else, live-slot}
+use Rattle.store.proofs.Frame.{header-full, header-values, header-slot, header-live, formed}
 use Rattle.store.proofs.Kept.{guests-gone, deleted-live, deleted-slot, deleted-other}
 use Rattle.admission.specs.Refusals.{Outcome, accept, refuse, decide, hasBit0, Passed}
 use Rattle.guests.specs.Guests.{createGuest, createVcpu, deleteGuest}
@@ -121,13 +122,13 @@ module _ (l : Layout) (s : List ℕ) where
   unfolding freeGuest isDead
   free-guest u =
       let f = first-found (isDead l (header l s)) (l .guests) 1 (omega arith) in
-      record { from = first-bounds (isDead l (header l s)) (l .guests) 1 .0; upto = u; free = not-true _ (f .has); taken = λ k i j. not-false _ (f .none k i j) }
+      record { from = first-bounds (isDead l (header l s)) (l .guests) 1 .0; upto = u; free = not-true _ (f .has); used = λ k i j. not-false _ (f .none k i j) }
 
   pub free-slot : freeSlot l (header l s) < l .slots → LowestSlot l s (freeSlot l (header l s))
   unfolding freeSlot slotHolding holds
   free-slot u =
       let f = first-found (holds l (header l s) 0) (l .slots) 0 (omega arith) in
-      record { upto = u; free = eqb-true _ _ (f .has); taken = λ k j. eqb-false _ _ (f .none k (omega arith) j) }
+      record { upto = u; free = eqb-true _ _ (f .has); used = λ k j. eqb-false _ _ (f .none k (omega arith) j) }
 
   -- ---- 01: "Create takes the lowest free id or slot": create guest, whose R4 is the id
   guest-told : (flags token : ℕ) → GuestMade flags token → registers l s (CreateGuest flags token) .r4 ≡ freeGuest l (header l s)
@@ -169,22 +170,22 @@ module _ (l : Layout) (so : Sound l) (s : List ℕ) where
     unfolding wordOf
     new-word = let p = live-parts l (header l s) g (m .lives) in let small = m .small in omega (arith, p .1, so .nameable)
 
-    pub made-header : header l (withVcpu l s here g v) ≡ putWord l (header l s) here (wordOf l g v)
+    pub made-header : header l (withVcpu l s here g v) ≡ putSlot l (header l s) here (wordOf l g v)
     unfolding withVcpu
-    made-header = header-values l so (putWord l s here (wordOf l g v)) (slotAt l here) (zeros slotBytes) (omega (arith, so .guests-fit)) ∙ header-word l so s here (wordOf l g v) (m .room)
+    made-header = header-values l so (putSlot l s here (wordOf l g v)) (slotAt l here) (zeros slotBytes) (omega (arith, so .guests-fit)) ∙ header-slot l so s here (wordOf l g v) (m .room)
 
     -- no slot had the word before, and now the free one has
-    made-slot : slotOf l (putWord l (header l s) here (wordOf l g v)) g v ≡ here
+    made-slot : slotOf l (putSlot l (header l s) here (wordOf l g v)) g v ≡ here
     unfolding slotHolding holds
     made-slot =
         let w = wordOf l g v in
-        let h = putWord l (header l s) here w in
-        sym (slot-found h g v (live-same l so (header l s) full here (m .room) w g ∙ m .lives) (m .small))
+        let h = putSlot l (header l s) here w in
+        sym (slot-found h g v (live-slot l so (header l s) full here (m .room) w g ∙ m .lives) (m .small))
         ∙ found-first (holds l h w) (l .slots) 0 here (record {
-          has = eq-eqb _ _ (word-same l so (header l s) full here (m .room) w new-word);
+          has = eq-eqb _ _ (word-slot l so (header l s) full here (m .room) w new-word);
           above = omega arith;
           below = omega (arith, m .room);
-          none = λ k i j. ne-eqb _ _ (λ q. absent k (omega (arith, m .room)) (sym (word-other l so (header l s) full here (m .room) w k (λ z. omega arith)) ∙ q));
+          none = λ k i j. ne-eqb _ _ (λ q. absent k (omega (arith, m .room)) (sym (word-slot-else l so (header l s) full here (m .room) w k (omega (arith, m .room)) (λ z. omega arith)) ∙ q));
         })
       where
         absent : (k : ℕ) → k < l .slots → word l (header l s) k ≢ wordOf l g v
@@ -267,11 +268,11 @@ module _ (l : Layout) (so : Sound l) (s : List ℕ) where
         (λ q lv. deleted-slot l so s (was .good) guest lv a la (eqb-true _ _ (ap (λ (t : Bool). t || eqb (guestOf l (word l (header l s) a)) guest) (sym q) ∙ d)))
 
     -- every other slot is as it was
-    pub kept-slot : (a : ℕ) → deletes flags guest (guestOf l (word l (header l s) a)) ≡ false → word l (header l (outcome l s (DeleteGuest flags guest) .store)) a ≡ word l (header l s) a
-    kept-slot a d =
+    pub kept-slot : (a : ℕ) → a < l .slots → deletes flags guest (guestOf l (word l (header l s) a)) ≡ false → word l (header l (outcome l s (DeleteGuest flags guest) .store)) a ≡ word l (header l s) a
+    kept-slot a la d =
         by-bit0 (λ (t : List ℕ). word l (header l t) a ≡ word l (header l s) a)
         (λ q. absurd (no-bool (sym d ∙ ap (λ (t : Bool). t || eqb (guestOf l (word l (header l s) a)) guest) q)))
-        (λ q lv. deleted-other l so s (was .good) guest lv a (eqb-false _ _ (ap (λ (t : Bool). t || eqb (guestOf l (word l (header l s) a)) guest) (sym q) ∙ d)))
+        (λ q lv. deleted-other l so s (was .good) guest lv a la (eqb-false _ _ (ap (λ (t : Bool). t || eqb (guestOf l (word l (header l s) a)) guest) (sym q) ∙ d)))
 
     -- so the next create takes that id or slot, or a lower one that is free too
     pub guest-again : (g : ℕ) → 1 ≤ g → deletes flags guest g ≡ true → freeGuest l (header l (outcome l s (DeleteGuest flags guest) .store)) ≤ g

@@ -34,19 +34,24 @@ use Rattle.gsb.specs.Walk.{countOf, idAt, sizeAt, offsetAt, judged, walkOn, wal
 use Rattle.store.specs.declared.Layout.{Layout}
 use Rattle.store.specs.Layout.{Sound, small, guestBytes, slotBytes, guestAt, slotAt}
 use Rattle.store.specs.Search.{every, first}
-use Rattle.store.specs.Header.{header, live, capabilitiesOf, wordAt, word, wordOf, isUsed, guestOf, lacks, alone, slotGood, headGood, wordsGood, isDead, anyLive, freeGuest, freeSlot}
-use Rattle.store.specs.Store.{wellFormed, fresh, putCapabilities, putLive, putWord, withGuest, withVcpu, dropWord, dropWords, withoutGuest, noWords, noGuests, withoutGuests}
+use Rattle.store.specs.Header.{header, live, capabilitiesOf, wordAt, word, wordOf, isUsed, guestOf, isTaken, lacks, alone, slotGood, headGood, wordsGood, isDead, anyLive, freeGuest, freeSlot}
+use Rattle.store.specs.Store.{wellFormed, fresh, putCapabilities, putLive, putWord, putTaken, putSlot, withGuest, withVcpu, dropWord, dropWords, withoutGuest, noWords, noGuests, withoutGuests}
 use Rattle.store.proofs.Readings.{step}
 use Rattle.store.proofs.Search.{every-at, first-bounds, no-bool}
 use Rattle.store.proofs.Tests.{live-parts}
-use Rattle.store.proofs.WordFields.{live-same, live-else}
-use Rattle.store.proofs.Frame.{header-full, header-values, header-caps, header-word, header-live, formed}
+use Rattle.store.proofs.WordFields.{live-else}
+use Rattle.store.proofs.Marks.{live-slot}
+use Rattle.store.proofs.Frame.{header-full, header-values, header-caps, header-slot, header-live, formed}
 use Rattle.store.proofs.Kept.{live-long, caps-live, caps-said, deleted-else}
 use Rattle.transfer.specs.Transfer.{valueAt, putFrom, putAs, applied}
 use Rattle.transfer.proofs.Moving.{length-applied}
-use Rattle.admission.specs.Refusals.{Outcome, refuse, decide, Passed, bit0, hasBit0}
-use Rattle.admission.specs.Target.{targetTests, baseOf}
-use Rattle.state.specs.State.{contextOf, setUse, bufferTests, setState, getState}
+use Rattle.admission.specs.Refusals.{Outcome, refuse, decide, Passed, hasBit0, handsOver}
+use Rattle.admission.specs.Target.{slotNamed, targetTests, baseOf}
+use Rattle.handover.specs.Form.{valuesOf, taken}
+use Rattle.state.specs.HandOver.{takeVcpu, giveVcpu}
+use Rattle.state.specs.State.{contextOf, supportedBits, setUse, bufferTests, setElements, setState, getElements}
+use Rattle.state.proofs.HandOvers.{set-plain, get-ways, set-ways}
+use Rattle.promises.proofs.HandedOver.{handed, handed-live, handed-caps, handed-beside, Slotted, take-slotted, give-slotted, given-length}
 use Rattle.run.specs.Run.{inputOf, ranStore, ran, runVcpu}
 use Rattle.guests.specs.Guests.{createGuest, createVcpu, deleteGuest}
 use Rattle.l0.specs.Calls.{getCapabilities, setCapabilities, guestClock, Call, GetCapabilities, SetCapabilities, CreateGuest, CreateVcpu, GetState, SetState, RunVcpu, DeleteGuest, GuestClock, outcome, after}
@@ -123,6 +128,11 @@ module _ (l : Layout) (so : Sound l) where
   unfolding putWord
   keeps-word s i w h = keeps-field s (wordAt l i) (l .width) w (omega (arith, so .head)) (omega (arith, so .words, step (l .width) i (l .slots) h))
 
+  keeps-entry : (s : List ℕ) (i w : ℕ) → i < l .slots → Keeps s (putSlot l s i w)
+  unfolding putSlot putTaken
+  keeps-entry s i w h =
+      keeps-more s _ _ (keeps-field s (8 * l .«taken_at» + i) 1 0 (omega (arith, so .marks-head)) (omega (arith, so .marks))) (keeps-word (putTaken l s i 0) i w h)
+
   keeps-live : (s : List ℕ) (g b : ℕ) → 1 ≤ g → g ≤ l .guests → Keeps s (putLive s g b)
   unfolding putLive
   keeps-live s g b lo hi = keeps-field s (63 + g) 1 b (omega arith) (omega (arith, so .head, so .words))
@@ -138,8 +148,8 @@ module _ (l : Layout) (so : Sound l) where
   unfolding dropWord
   keeps-one s g n h = go (eqb _ g)
     where
-      go : (b : Bool) → Keeps s (cond b (putWord l s n 0) s)
-      go true = keeps-word s n 0 h
+      go : (b : Bool) → Keeps s (cond b (putSlot l s n 0) s)
+      go true = keeps-entry s n 0 h
       go false = keeps-self s
 
   keeps-drop : (s : List ℕ) (g n : ℕ) → n ≤ l .slots → Keeps s (dropWords l g n s)
@@ -150,7 +160,7 @@ module _ (l : Layout) (so : Sound l) where
   keeps-bare : (s : List ℕ) (n : ℕ) → n ≤ l .slots → Keeps s (noWords l n s)
   unfolding noWords
   keeps-bare s zero h = keeps-self s
-  keeps-bare s (suc n) h = keeps-more s (noWords l n s) _ (keeps-bare s n (omega arith)) (keeps-word (noWords l n s) n 0 (omega arith))
+  keeps-bare s (suc n) h = keeps-more s (noWords l n s) _ (keeps-bare s n (omega arith)) (keeps-entry (noWords l n s) n 0 (omega arith))
 
   keeps-none : (s : List ℕ) (n : ℕ) → n ≤ l .guests → Keeps s (noGuests n s)
   unfolding noGuests
@@ -236,7 +246,7 @@ module _ (l : Layout) (so : Sound l) where
   unfolding withGuest
   with-guest s k = refl
 
-  with-vcpu : (s : List ℕ) (j g v : ℕ) → withVcpu l s j g v ≡ put (putWord l s j (wordOf l g v)) (slotAt l j) (zeros slotBytes)
+  with-vcpu : (s : List ℕ) (j g v : ℕ) → withVcpu l s j g v ≡ put (putSlot l s j (wordOf l g v)) (slotAt l j) (zeros slotBytes)
   unfolding withVcpu
   with-vcpu s j g v = refl
 
@@ -293,10 +303,11 @@ module _ (l : Layout) (so : Sound l) where
     kept-header t e p =
         kept t (record { caps = sym (caps-front t) ∙ ap capabilitiesOf e ∙ caps-front s; pvrs = p }) (λ g h. sym (ap (λ (x : List ℕ). live l x g) e) ∙ h)
 
-    set-header : (flags guest vcpu : ℕ) (b : List ℕ) → header l (setState l s flags guest vcpu b .store) ≡ header l s
-    unfolding setState
-    set-header flags guest vcpu b =
-        decided Headed s [] _ _ (λ f. record { same = refl })
+    set-header : (flags guest vcpu : ℕ) (b : List ℕ) → handsOver flags ≡ false → header l (setState l s flags guest vcpu b .store) ≡ header l s
+    unfolding setElements
+    set-header flags guest vcpu b plain =
+        ap (λ (o : Outcome). header l (o .store)) (sym (set-plain l s flags guest vcpu b plain))
+        ∙ decided Headed s [] _ _ (λ f. record { same = refl })
         (λ p. record { same = applied-header l so (baseOf l s (hasBit0 flags) guest vcpu) b (countOf b) s (base-values l so s (hasBit0 flags) guest vcpu) }) .same
 
     run-header : (flags guest vcpu : ℕ) (input output effect : List ℕ) (exit : ℕ) → header l (runVcpu l s flags guest vcpu input output effect exit .store) ≡ header l s
@@ -314,10 +325,12 @@ module _ (l : Layout) (so : Sound l) where
     slot-behind guest vcpu g lo hi = right (omega (arith, so .guests-fit))
 
     -- a guest-wide set of the guest itself
-    set-own : (flags guest vcpu : ℕ) (b : List ℕ) → hasBit0 flags ≡ true → live l (header l s) guest ≡ true
+    set-own : (flags guest vcpu : ℕ) (b : List ℕ) → handsOver flags ≡ false → hasBit0 flags ≡ true → live l (header l s) guest ≡ true
         → ZeroOrAgreed (capabilitiesOf (header l s)) (pvrOf l (setState l s flags guest vcpu b .store) guest)
-    unfolding setState
-    set-own flags guest vcpu b wide alive = decided Own s [] _ _ (λ f. record { good = given guest alive }) (λ p. record { good = done p }) .good
+    unfolding setElements
+    set-own flags guest vcpu b plain wide alive =
+        subst (λ (o : Outcome). ZeroOrAgreed (capabilitiesOf (header l s)) (pvrOf l (o .store) guest)) (set-plain l s flags guest vcpu b plain)
+        (decided Own s [] _ _ (λ f. record { good = given guest alive }) (λ p. record { good = done p }) .good)
       where
         Own : Outcome → Type 0
         Own o = Owned guest o
@@ -327,12 +340,12 @@ module _ (l : Layout) (so : Sound l) where
         settled (inl e) = subst (ZeroOrAgreed (capabilitiesOf (header l s))) (sym e) (given guest alive)
         settled (inr e) = inr e
 
-        done : Passed (targetTests l s bit0 flags (hasBit0 flags) guest vcpu ++ bufferTests l s (setUse (hasBit0 flags)) b)
+        done : Passed (targetTests l s (supportedBits (hasBit0 flags)) flags (hasBit0 flags) guest vcpu ++ bufferTests l s (setUse (hasBit0 flags)) b)
             → ZeroOrAgreed (capabilitiesOf (header l s)) (pvrOf l (applied (baseOf l s (hasBit0 flags) guest vcpu) b (countOf b) s) guest)
         done p =
             let r = live-parts l (header l s) guest alive in
             let long = formed l s (not-false _ (p .0)) .long in
-            let base : baseOf l s (hasBit0 flags) guest vcpu ≡ guestAt l guest = wide-base l s flags guest vcpu b wide in
+            let base : baseOf l s (hasBit0 flags) guest vcpu ≡ guestAt l guest = wide-base l s flags guest vcpu b plain wide in
             let k = contextOf l s (setUse (hasBit0 flags)) in
             let u : setUse (hasBit0 flags) ≡ GuestSet = ap setUse wide in
             subst (λ (x : ℕ). ZeroOrAgreed (capabilitiesOf (header l s)) (pvrOf l (applied x b (countOf b) s) guest)) (sym base)
@@ -423,12 +436,12 @@ module _ (l : Layout) (so : Sound l) where
         made : (j : ℕ) → length s ≡ l .size → j < l .slots → PvrAgreed l (withVcpu l s j guest vcpu)
         made j long h =
             let w = wordOf l guest vcpu in
-            let u = putWord l s j w in
+            let u = putSlot l s j w in
             let e = with-vcpu s j guest vcpu in
-            let head : header l (withVcpu l s j guest vcpu) ≡ putWord l (header l s) j w =
-            ap (header l) e ∙ header-values l so u (slotAt l j) (zeros slotBytes) (omega (arith, so .guests-fit)) ∙ header-word l so s j w h in
-            kept (withVcpu l s j guest vcpu) (subst (Keeps s) (sym e) (keeps-more s u _ (keeps-word s j w h) (keeps-slot u j (zeros slotBytes))))
-            (λ g a. sym (ap (λ (x : List ℕ). live l x g) head ∙ live-same l so (header l s) (header-full l so s long) j h w g) ∙ a)
+            let head : header l (withVcpu l s j guest vcpu) ≡ putSlot l (header l s) j w =
+            ap (header l) e ∙ header-values l so u (slotAt l j) (zeros slotBytes) (omega (arith, so .guests-fit)) ∙ header-slot l so s j w h in
+            kept (withVcpu l s j guest vcpu) (subst (Keeps s) (sym e) (keeps-more s u _ (keeps-entry s j w h) (keeps-slot u j (zeros slotBytes))))
+            (λ g a. sym (ap (λ (x : List ℕ). live l x g) head ∙ live-slot l so (header l s) (header-full l so s long) j h w g) ∙ a)
 
     -- delete: the guests that live did so before
     one-agreed : (guest : ℕ) → live l (header l s) guest ≡ true → wellFormed l s ≡ true → PvrAgreed l (withoutGuest l s guest)
@@ -451,14 +464,14 @@ module _ (l : Layout) (so : Sound l) where
         go false e w = one-agreed guest (not-false _ e) w
 
     -- set state: of a vCPU, of another guest, or of the guest itself
-    set-agreed : (flags guest vcpu : ℕ) (b : List ℕ) → Agreed (setState l s flags guest vcpu b)
-    set-agreed flags guest vcpu b = record { agreed = by-scope (hasBit0 flags) refl }
+    plain-agreed : (flags guest vcpu : ℕ) (b : List ℕ) → handsOver flags ≡ false → Agreed (setState l s flags guest vcpu b)
+    plain-agreed flags guest vcpu b plain = record { agreed = by-scope (hasBit0 flags) refl }
       where
         t : List ℕ
         t = setState l s flags guest vcpu b .store
 
         head : header l t ≡ header l s
-        head = set-header flags guest vcpu b
+        head = set-header flags guest vcpu b plain
 
         alive : (g : ℕ) → live l (header l t) g ≡ true → live l (header l s) g ≡ true
         alive g h = sym (ap (λ (x : List ℕ). live l x g) head) ∙ h
@@ -470,26 +483,55 @@ module _ (l : Layout) (so : Sound l) where
         by-guest e g h (no n) =
             let a = alive g h in
             same-caps (pvrOf l t g)
-            (subst (ZeroOrAgreed (capabilitiesOf (header l s))) (sym (guest-part t g (other-guest l s flags guest vcpu b e g (live-parts l (header l s) g a .0) n))) (given g a))
+            (subst (ZeroOrAgreed (capabilitiesOf (header l s))) (sym (guest-part t g (other-guest l s flags guest vcpu b plain e g (live-parts l (header l s) g a .0) n))) (given g a))
         by-guest e g h (yes q) =
             same-caps (pvrOf l t g)
-            (subst (λ (x : ℕ). ZeroOrAgreed (capabilitiesOf (header l s)) (pvrOf l t x)) q (set-own flags guest vcpu b e (subst (λ (x : ℕ). live l (header l s) x ≡ true) (sym q) (alive g h))))
+            (subst (λ (x : ℕ). ZeroOrAgreed (capabilitiesOf (header l s)) (pvrOf l t x)) q (set-own flags guest vcpu b plain e (subst (λ (x : ℕ). live l (header l s) x ≡ true) (sym q) (alive g h))))
 
         by-scope : (wide : Bool) → hasBit0 flags ≡ wide → PvrAgreed l t
-        by-scope false e = kept-header t head (λ g lo hi. guest-part t g (every-guest l s flags guest vcpu b e so g hi))
+        by-scope false e = kept-header t head (λ g lo hi. guest-part t g (every-guest l s flags guest vcpu b plain e so g hi))
         by-scope true e = λ g h. by-guest e g h (ℕ-discrete guest g)
+
+    -- a hand-over: a slot's values and its mark
+    handed-agreed : (guest vcpu : ℕ) (w : List ℕ) (b : ℕ) → length w ≡ slotBytes → Slotted l s guest vcpu → PvrAgreed l (handed l s (slotNamed l s guest vcpu) w b)
+    handed-agreed guest vcpu w b len f =
+        let j = slotNamed l s guest vcpu in
+        let long = formed l s (f .good) .long in
+        let t = handed l s (slotNamed l s guest vcpu) w b in
+        kept t
+        (record {
+          caps = sym (caps-front t) ∙ handed-caps l so s j (f .below) w b long ∙ caps-front s;
+          pvrs = λ g lo hi. guest-part t g (handed-beside l so s j (f .below) w b long len (guestAt l g) guestBytes (omega arith) (omega (arith, long, so .guests-fit, so .whole)) (right (omega (arith, so .guests-fit))));
+        })
+        (λ g h. sym (handed-live l so s j (f .below) w b long g) ∙ h)
+
+    take-agreed : (guest vcpu : ℕ) (b : List ℕ) → Agreed (takeVcpu l s guest vcpu b)
+    unfolding takeVcpu taken
+    take-agreed guest vcpu b = decided Agreed s b _ _ (refused b) (λ p. record { agreed = handed-agreed guest vcpu (zeros slotBytes) 1 (length-zeros slotBytes) (take-slotted l s guest vcpu b p) })
+
+    give-agreed : (guest vcpu : ℕ) (b : List ℕ) → Agreed (giveVcpu l s guest vcpu b)
+    unfolding giveVcpu
+    give-agreed guest vcpu b = decided Agreed s [] _ _ (refused []) (λ p. record { agreed = handed-agreed guest vcpu (valuesOf b) 0 (given-length l s guest vcpu b p) (give-slotted l s guest vcpu b p) })
+
+    set-agreed : (flags guest vcpu : ℕ) (b : List ℕ) → Agreed (setState l s flags guest vcpu b)
+    set-agreed flags guest vcpu b =
+        set-ways l s flags guest vcpu b Agreed (λ plain. subst Agreed (sym (set-plain l s flags guest vcpu b plain)) (plain-agreed flags guest vcpu b plain)) (λ t. give-agreed guest vcpu b)
+
+    got-agreed : (flags guest vcpu : ℕ) (b : List ℕ) → Agreed (getElements l s flags guest vcpu b)
+    unfolding getElements
+    got-agreed flags guest vcpu b = decided Agreed s b _ _ (refused b) (λ p. record { agreed = given })
 
     -- run: a slot's values alone
     run-agreed : (flags guest vcpu : ℕ) (input output effect : List ℕ) (exit : ℕ) → Agreed (runVcpu l s flags guest vcpu input output effect exit)
     run-agreed flags guest vcpu input output effect exit = record { agreed = kept-header _ (run-header flags guest vcpu input output effect exit) (λ g lo hi. guest-part _ g (run-beside l s flags guest vcpu input output effect exit (guestAt l g) guestBytes (slot-behind guest vcpu g lo hi))) }
 
     call-agreed : (c : Call) → Agreed (outcome l s c)
-    unfolding outcome getCapabilities getState guestClock
+    unfolding outcome getCapabilities guestClock
     call-agreed (GetCapabilities flags) = decided Agreed s [] _ _ (refused []) (λ p. record { agreed = given })
     call-agreed (SetCapabilities flags bitmap) = caps-agreed flags bitmap
     call-agreed (CreateGuest flags token) = guest-agreed flags token
     call-agreed (CreateVcpu flags guest vcpu) = vcpu-agreed flags guest vcpu
-    call-agreed (GetState flags guest vcpu buffer) = decided Agreed s buffer _ _ (refused buffer) (λ p. record { agreed = given })
+    call-agreed (GetState flags guest vcpu buffer) = get-ways l s flags guest vcpu buffer Agreed (λ e. got-agreed flags guest vcpu buffer) (λ t. take-agreed guest vcpu buffer)
     call-agreed (SetState flags guest vcpu buffer) = set-agreed flags guest vcpu buffer
     call-agreed (RunVcpu flags guest vcpu input output effect exit) = run-agreed flags guest vcpu input output effect exit
     call-agreed (DeleteGuest flags guest) = delete-agreed flags guest
@@ -511,5 +553,5 @@ module _ (l : Layout) (so : Sound l) where
 
 -- ---- it is not empty: a history in which a guest lives with each of the two PVRs. Computed.
 pub both-live : LivesWith small (after small (fresh small) bothPvrs) 1 0x0F000005 × LivesWith small (after small (fresh small) bothPvrs) 2 0x0F000006
-unfolding bytesAt put be digits zeros bit bits ins setBit putBits table below position sourceOf find kindOf allows permits sizeFits goodPvr ruleOf goodValue offsetAt judged walkOn walk firstBad putFrom putAs applied every first header capabilitiesOf live word isUsed guestOf lacks alone slotGood headGood wordsGood isDead freeGuest anyLive wellFormed fresh putCapabilities putLive withGuest decide baseOf setState createGuest setCapabilities outcome after element bufferOf one bothPvrs
+unfolding bytesAt put be digits zeros bit bits ins setBit putBits table below position sourceOf find kindOf allows permits sizeFits goodPvr ruleOf goodValue offsetAt judged walkOn walk firstBad putFrom putAs applied every first header capabilitiesOf live word isUsed guestOf isTaken lacks alone slotGood headGood wordsGood isDead freeGuest anyLive wellFormed fresh putCapabilities putLive withGuest decide baseOf setElements setState createGuest setCapabilities outcome after element bufferOf one bothPvrs
 both-live = (record { alive = refl; pvr = refl }, record { alive = refl; pvr = refl })

@@ -9,7 +9,7 @@ use lib.ListN.{length}
 use Rattle.octets.specs.Bytes.{bytesAt, put, right}
 use Rattle.octets.proofs.Bytes.{length-bytesAt, read-back}
 use Rattle.octets.proofs.Numbers.{be-other}
-use Rattle.answer.specs.declared.Fault.the-variants.{None, Length}
+use Rattle.answer.specs.declared.Fault.the-variants.{None, Length, Taken}
 use Rattle.elements.specs.declared.Source.{Source}
 use Rattle.elements.specs.declared.Source.the-variants.{Stored}
 use Rattle.rules.specs.declared.Usage.{Usage}
@@ -34,9 +34,10 @@ use Rattle.store.specs.Header.{header, slotOf}
 use Rattle.store.proofs.Frame.{header-values}
 use Rattle.transfer.specs.Transfer.{valueAt, putFrom, putAs, applied, readFrom, fillAs, filled, AllReady}
 use Rattle.transfer.proofs.Moving.{moves-fits, fits-stored}
-use Rattle.admission.specs.Refusals.{Outcome, accept, bit0, hasBit0, Passed}
+use Rattle.admission.specs.Refusals.{Outcome, accept, hasBit0, handsOver, Passed}
 use Rattle.admission.specs.Target.{targetTests, baseOf}
-use Rattle.state.specs.State.{contextOf, isStopped, faultOf, bufferTests, setUse, setState, getUse, fillWith, getState}
+use Rattle.state.specs.State.{contextOf, isStopped, faultOf, bufferTests, supportedBits, setUse, setElements, setState, getUse, fillWith, getElements, getState}
+use Rattle.state.proofs.HandOvers.{get-plain, set-plain}
 use Rattle.l0.specs.Calls.{GetState, SetState, outcome}
 use Rattle.promises.specs.History.{isAccepted}
 use Rattle.promises.proofs.Told.{accepted-none}
@@ -44,7 +45,10 @@ use Rattle.promises.proofs.Kept.{base-values}
 use Rattle.promises.proofs.Lowest.{Real, accepted, no-store, no-flag, no-guest, no-vcpu}
 use Rattle.promises.proofs.States.{walked, all-ready, set-room}
 
-no-length : Length ≡ None → ⊥
+pub no-taken : Taken ≡ None → ⊥
+no-taken e = let z : _≡_ {A = ℕ} 0 1 = cc in omega arith
+
+pub no-length : Length ≡ None → ⊥
 no-length e = let z : _≡_ {A = ℕ} 0 1 = cc in omega arith
 
 stopped-real : (w : Walked) → isStopped w ≡ true → faultOf w ≡ None → ⊥
@@ -52,18 +56,18 @@ stopped-real Done e q = let z : _≡_ {A = ℕ} 0 1 = cc in omega arith
 stopped-real (Stopped bad place) e q = let z : _≡_ {A = ℕ} 0 1 = cc in omega arith
 
 module _ (l : Layout) (s : List ℕ) (flags guest vcpu : ℕ) (b : List ℕ) where
-  all-real : (usage : Usage) → Real (targetTests l s bit0 flags (hasBit0 flags) guest vcpu ++ bufferTests l s usage b)
-  all-real usage = ((λ t. no-store), ((λ t. no-flag _), ((λ t. no-guest), ((λ t. no-vcpu), ((λ t. no-length), (stopped-real (firstBad (contextOf l s usage) b), tt))))))
+  all-real : (usage : Usage) → Real (targetTests l s (supportedBits (hasBit0 flags)) flags (hasBit0 flags) guest vcpu ++ bufferTests l s usage b)
+  all-real usage = ((λ t. no-store), ((λ t. no-flag _), ((λ t. no-guest), ((λ t. no-vcpu), ((λ t. no-taken), ((λ t. no-length), (stopped-real (firstBad (contextOf l s usage) b), tt)))))))
 
-  set-accepted : setState l s flags guest vcpu b .answer .fault ≡ None
-      → Passed (targetTests l s bit0 flags (hasBit0 flags) guest vcpu ++ bufferTests l s (setUse (hasBit0 flags)) b) × (setState l s flags guest vcpu b ≡ accept 0 (applied (baseOf l s (hasBit0 flags) guest vcpu) b (countOf b) s))
-  unfolding setState
-  set-accepted e = accepted s [] (targetTests l s bit0 flags (hasBit0 flags) guest vcpu ++ bufferTests l s (setUse (hasBit0 flags)) b) (accept 0 (applied (baseOf l s (hasBit0 flags) guest vcpu) b (countOf b) s)) (all-real (setUse (hasBit0 flags))) e
+  set-accepted : setElements l s flags guest vcpu b .answer .fault ≡ None
+      → Passed (targetTests l s (supportedBits (hasBit0 flags)) flags (hasBit0 flags) guest vcpu ++ bufferTests l s (setUse (hasBit0 flags)) b) × (setElements l s flags guest vcpu b ≡ accept 0 (applied (baseOf l s (hasBit0 flags) guest vcpu) b (countOf b) s))
+  unfolding setElements
+  set-accepted e = accepted s [] (targetTests l s (supportedBits (hasBit0 flags)) flags (hasBit0 flags) guest vcpu ++ bufferTests l s (setUse (hasBit0 flags)) b) (accept 0 (applied (baseOf l s (hasBit0 flags) guest vcpu) b (countOf b) s)) (all-real (setUse (hasBit0 flags))) e
 
-  get-accepted : getState l s flags guest vcpu b .answer .fault ≡ None
-      → Passed (targetTests l s bit0 flags (hasBit0 flags) guest vcpu ++ bufferTests l s (getUse (hasBit0 flags)) b) × (getState l s flags guest vcpu b ≡ fillWith s (baseOf l s (hasBit0 flags) guest vcpu) b)
-  unfolding getState
-  get-accepted e = accepted s b (targetTests l s bit0 flags (hasBit0 flags) guest vcpu ++ bufferTests l s (getUse (hasBit0 flags)) b) (fillWith s (baseOf l s (hasBit0 flags) guest vcpu) b) (all-real (getUse (hasBit0 flags))) e
+  get-accepted : getElements l s flags guest vcpu b .answer .fault ≡ None
+      → Passed (targetTests l s (supportedBits (hasBit0 flags)) flags (hasBit0 flags) guest vcpu ++ bufferTests l s (getUse (hasBit0 flags)) b) × (getElements l s flags guest vcpu b ≡ fillWith s (baseOf l s (hasBit0 flags) guest vcpu) b)
+  unfolding getElements
+  get-accepted e = accepted s b (targetTests l s (supportedBits (hasBit0 flags)) flags (hasBit0 flags) guest vcpu ++ bufferTests l s (getUse (hasBit0 flags)) b) (fillWith s (baseOf l s (hasBit0 flags) guest vcpu) b) (all-real (getUse (hasBit0 flags))) e
 
 -- the first element of an accepted buffer that has one
 first-good : (k : Context) (b : List ℕ) → firstBad k b ≡ Done → countOf b ≡ 1 → GoodElement k b 4
@@ -132,11 +136,11 @@ base-same l s t flags guest vcpu e = ap (λ (h : List ℕ). cond (hasBit0 flags)
 
 module _ (l : Layout) (so : Sound l) (s : List ℕ) (flags guest vcpu : ℕ) (b c : List ℕ) where
   abbrev after : List ℕ
-  after = setState l s flags guest vcpu b .store
+  after = setElements l s flags guest vcpu b .store
 
-  read-after : setState l s flags guest vcpu b .answer .fault ≡ None → countOf b ≡ 1 → idAt b 4 ≢ 0
-      → getState l after flags guest vcpu c .answer .fault ≡ None → countOf c ≡ 1 → idAt c 4 ≡ idAt b 4
-      → valueAt (getState l after flags guest vcpu c .buffer) 4 ≡ valueAt b 4
+  read-after : setElements l s flags guest vcpu b .answer .fault ≡ None → countOf b ≡ 1 → idAt b 4 ≢ 0
+      → getElements l after flags guest vcpu c .answer .fault ≡ None → countOf c ≡ 1 → idAt c 4 ≡ idAt b 4
+      → valueAt (getElements l after flags guest vcpu c .buffer) 4 ≡ valueAt b 4
   read-after eb ob n ec oc i =
       let x = set-accepted l s flags guest vcpu b eb in
       let y = get-accepted l after flags guest vcpu c ec in
@@ -158,9 +162,16 @@ module _ (l : Layout) (so : Sound l) (s : List ℕ) (flags guest vcpu : ℕ) (b 
       ∙ ap₂ (λ (u : ℕ) (z : List ℕ). valueAt (put c 8 (bytesAt z (u + p) (t .entry .size))) 4) bs st
       ∙ through b c s (base + p) (t .entry .size) sb sc (omega (arith, gb .inside, sb)) (omega (arith, gc .inside, sc)) room
 
-  -- both buffers hold one element, which is no NOP, of one ID
-  pub set-then-get : isAccepted l s (SetState flags guest vcpu b) ≡ true → countOf b ≡ 1 → idAt b 4 ≢ 0
+  -- both buffers hold one element, which is no NOP, of one ID, and neither call hands a vCPU over
+  pub set-then-get : handsOver flags ≡ false → isAccepted l s (SetState flags guest vcpu b) ≡ true → countOf b ≡ 1 → idAt b 4 ≢ 0
       → isAccepted l (outcome l s (SetState flags guest vcpu b) .store) (GetState flags guest vcpu c) ≡ true → countOf c ≡ 1 → idAt c 4 ≡ idAt b 4
       → valueAt (outcome l (outcome l s (SetState flags guest vcpu b) .store) (GetState flags guest vcpu c) .buffer) 4 ≡ valueAt b 4
   unfolding outcome
-  set-then-get eb ob n ec oc i = read-after (accepted-none l s (SetState flags guest vcpu b) eb) ob n (accepted-none l after (GetState flags guest vcpu c) ec) oc i
+  set-then-get plain eb ob n ec oc i =
+      let x = set-plain l s flags guest vcpu b plain in
+      let t = setState l s flags guest vcpu b .store in
+      let e : setState l s flags guest vcpu b .store ≡ after = ap (λ (o : Outcome). o .store) (sym x) in
+      let y : getElements l after flags guest vcpu c ≡ getState l t flags guest vcpu c = ap (λ (u : List ℕ). getElements l u flags guest vcpu c) (sym e) ∙ get-plain l t flags guest vcpu c plain in
+      ap (λ (o : Outcome). valueAt (o .buffer) 4) (sym y)
+      ∙ read-after (ap (λ (o : Outcome). o .answer .fault) x ∙ accepted-none l s (SetState flags guest vcpu b) eb) ob n
+      (ap (λ (o : Outcome). o .answer .fault) y ∙ accepted-none l t (GetState flags guest vcpu c) ec) oc i

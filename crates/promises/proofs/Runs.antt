@@ -192,10 +192,10 @@ module _ (l : Layout) (s : List ℕ) (flags guest vcpu : ℕ) (input output effe
   tests = runTests l s flags guest vcpu input (length output) effect exit
 
   pub input-walked : Passed tests → firstBad (contextOf l s RunInput) given ≡ Done
-  input-walked p = stopped-not (firstBad (contextOf l s RunInput) given) (p .1 .1 .1 .1 .1 .1 .1 .1 .0)
+  input-walked p = stopped-not (firstBad (contextOf l s RunInput) given) (p .1 .1 .1 .1 .1 .1 .1 .1 .1 .0)
 
   pub effect-walked : Passed tests → firstBad (contextOf l s InEffect) effect ≡ Done
-  effect-walked p = stopped-not (firstBad (contextOf l s InEffect) effect) (p .1 .1 .1 .1 .1 .1 .1 .1 .1 .1 .1 .0)
+  effect-walked p = stopped-not (firstBad (contextOf l s InEffect) effect) (p .1 .1 .1 .1 .1 .1 .1 .1 .1 .1 .1 .1 .0)
 
   record ByteKept (j : ℕ) (o : Outcome) : Type 0 where
     kept : getD (o .store) j 0 ≡ getD s j 0
@@ -239,5 +239,5 @@ module _ (l : Layout) (s : List ℕ) (flags guest vcpu : ℕ) (input output effe
     where
       room : Passed tests → base + 1820 ≤ length (ranStore base given effect s)
       room p =
-          let y = run-found l so s flags guest vcpu 0 (length input) (length output) (p .0, (p .1 .0, (p .1 .1 .0, (p .1 .1 .1 .0, (p .1 .1 .1 .1 .0, (p .1 .1 .1 .1 .1 .0, (p .1 .1 .1 .1 .1 .1 .0, (p .1 .1 .1 .1 .1 .1 .1 .0, tt)))))))) in
+          let y = run-found l so s flags guest vcpu 0 (length input) (length output) (p .0, (p .1 .0, (p .1 .1 .0, (p .1 .1 .1 .0, (p .1 .1 .1 .1 .0, (p .1 .1 .1 .1 .1 .0, (p .1 .1 .1 .1 .1 .1 .0, (p .1 .1 .1 .1 .1 .1 .1 .0, (p .1 .1 .1 .1 .1 .1 .1 .1 .0, tt))))))))) in
           omega (arith, y .room, y .long, length-ran)

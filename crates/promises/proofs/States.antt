@@ -37,9 +37,10 @@ use Rattle.transfer.specs.Transfer.{applied, AllReady}
 use Rattle.transfer.proofs.Accepted.{ready-all}
 use Rattle.transfer.specs.Named.{Named, ValueByte}
 use Rattle.transfer.proofs.Named.{applied-frame, filled-frame, beside}
-use Rattle.admission.specs.Refusals.{Outcome, success, accept, refuse, decide, bit0, hasBit0, Passed}
+use Rattle.admission.specs.Refusals.{Outcome, success, accept, refuse, decide, hasBit0, handsOver, Passed}
 use Rattle.admission.specs.Target.{targetTests, baseOf}
-use Rattle.state.specs.State.{contextOf, isStopped, faultOf, badElement, bufferTests, setUse, setState, getUse, fillWith, getState}
+use Rattle.state.specs.State.{contextOf, isStopped, faultOf, badElement, bufferTests, supportedBits, setUse, setElements, setState, getUse, fillWith, getElements, getState}
+use Rattle.state.proofs.HandOvers.{get-plain, set-plain}
 use Rattle.l0.specs.Calls.{GetState, SetState, outcome}
 use Rattle.promises.specs.History.{registers}
 use Rattle.promises.proofs.Kept.{decided}
@@ -54,16 +55,17 @@ not-stopped : (w : Walked) → isStopped w ≡ false → w ≡ Done
 not-stopped Done e = refl
 not-stopped (Stopped bad place) e = let z : _≡_ {A = ℕ} 0 1 = cc in absurd (omega arith)
 
+-- 02, L1: "demand 2's last two sentences leave both hand-overs out": they are about calls that do not hand over
 module _ (l : Layout) (s : List ℕ) (flags guest vcpu : ℕ) (b : List ℕ) where
   -- ---- Demand 2: "Past the earlier checks, a buffer is refused for an element exactly if it holds a bad one, and the place told is the
   -- first." 02, L4: "Set and get state, and a lookup's 7, keep R4 as the index and put the byte offset in R5".
-  module _ (p : Passed (targetTests l s bit0 flags (hasBit0 flags) guest vcpu)) (g : badLength b ≡ false) where
+  module _ (p : Passed (targetTests l s (supportedBits (hasBit0 flags)) flags (hasBit0 flags) guest vcpu)) (g : badLength b ≡ false) (plain : handsOver flags ≡ false) where
     -- past the earlier tests, what is told is what the walk finds
-    walk-told : (c : Name) (usage : Usage) (lent : List ℕ) (o : Outcome) → o .answer ≡ success 0 → (x : Outcome) → x ≡ decide s lent (targetTests l s bit0 flags (hasBit0 flags) guest vcpu ++ bufferTests l s usage b) o
+    walk-told : (c : Name) (usage : Usage) (lent : List ℕ) (o : Outcome) → o .answer ≡ success 0 → (x : Outcome) → x ≡ decide s lent (targetTests l s (supportedBits (hasBit0 flags)) flags (hasBit0 flags) guest vcpu ++ bufferTests l s usage b) o
         → tells c x ≡ toldBy (elementTold c) (three 0 0 0) (firstBad (contextOf l s usage) b)
     unfolding decide
     walk-told c usage lent o a x e =
-        ap (tells c) (e ∙ skip (refuse s lent) (targetTests l s bit0 flags (hasBit0 flags) guest vcpu) (bufferTests l s usage b) o p)
+        ap (tells c) (e ∙ skip (refuse s lent) (targetTests l s (supportedBits (hasBit0 flags)) flags (hasBit0 flags) guest vcpu) (bufferTests l s usage b) o p)
         ∙ ap (λ (t : Bool). tells c (cond t (refuse s lent Length) (firstOf (refuse s lent) (badElement (contextOf l s usage) b ∷ []) o))) g ∙ go (firstBad (contextOf l s usage) b)
       where
         go : (w : Walked) → tells c (cond (isStopped w) (refuse s lent (faultOf w)) o) ≡ toldBy (elementTold c) (three 0 0 0) w
@@ -71,12 +73,12 @@ module _ (l : Layout) (s : List ℕ) (flags guest vcpu : ℕ) (b : List ℕ) whe
         go (Stopped bad place) = refl
 
     set-told : registers l s (SetState flags guest vcpu b) ≡ toldBy (elementTold Name.SetState) (three 0 0 0) (firstBad (contextOf l s (setUse (hasBit0 flags))) b)
-    unfolding registers outcome setState
-    set-told = walk-told Name.SetState (setUse (hasBit0 flags)) [] _ refl _ refl
+    unfolding registers outcome setElements
+    set-told = walk-told Name.SetState (setUse (hasBit0 flags)) [] _ refl _ (sym (set-plain l s flags guest vcpu b plain))
 
     get-told : registers l s (GetState flags guest vcpu b) ≡ toldBy (elementTold Name.GetState) (three 0 0 0) (firstBad (contextOf l s (getUse (hasBit0 flags))) b)
-    unfolding registers outcome getState
-    get-told = walk-told Name.GetState (getUse (hasBit0 flags)) b _ refl _ refl
+    unfolding registers outcome getElements
+    get-told = walk-told Name.GetState (getUse (hasBit0 flags)) b _ refl _ (sym (get-plain l s flags guest vcpu b plain))
 
     pub set-refused-exactly : (bad : Bad) (i at : ℕ) → (registers l s (SetState flags guest vcpu b) ≡ three (badNumber bad) i at)
         ↔ (FirstBadAt (judged (contextOf l s (setUse (hasBit0 flags))) b) b i bad × (offsetAt b i ≡ at))
@@ -102,11 +104,11 @@ module _ (l : Layout) (s : List ℕ) (flags guest vcpu : ℕ) (b : List ℕ) whe
 
   -- ---- only what is named changes
   -- a buffer that passed its tests was walked to its end
-  pub walked : (usage : Usage) → Passed (targetTests l s bit0 flags (hasBit0 flags) guest vcpu ++ bufferTests l s usage b) → firstBad (contextOf l s usage) b ≡ Done
-  walked usage p = not-stopped (firstBad (contextOf l s usage) b) (p .1 .1 .1 .1 .1 .0)
+  pub walked : (usage : Usage) → Passed (targetTests l s (supportedBits (hasBit0 flags)) flags (hasBit0 flags) guest vcpu ++ bufferTests l s usage b) → firstBad (contextOf l s usage) b ≡ Done
+  walked usage p = not-stopped (firstBad (contextOf l s usage) b) (p .1 .1 .1 .1 .1 .1 .0)
 
   abbrev setTests : List (Bool × Fault)
-  setTests = targetTests l s bit0 flags (hasBit0 flags) guest vcpu ++ bufferTests l s (setUse (hasBit0 flags)) b
+  setTests = targetTests l s (supportedBits (hasBit0 flags)) flags (hasBit0 flags) guest vcpu ++ bufferTests l s (setUse (hasBit0 flags)) b
 
   abbrev setDone : Outcome
   setDone = accept 0 (applied (baseOf l s (hasBit0 flags) guest vcpu) b (countOf b) s)
@@ -114,28 +116,30 @@ module _ (l : Layout) (s : List ℕ) (flags guest vcpu : ℕ) (b : List ℕ) whe
   record ByteKept (j : ℕ) (o : Outcome) : Type 0 where
     kept : getD (o .store) j 0 ≡ getD s j 0
 
-  pub set-only-named : (j : ℕ) → (Named (baseOf l s (hasBit0 flags) guest vcpu) b (countOf b) j → ⊥) → getD (setState l s flags guest vcpu b .store) j 0 ≡ getD s j 0
-  unfolding setState
-  set-only-named j out =
-      decided (ByteKept j) s [] setTests setDone (λ f. record { kept = refl })
+  pub set-only-named : handsOver flags ≡ false → (j : ℕ) → (Named (baseOf l s (hasBit0 flags) guest vcpu) b (countOf b) j → ⊥) → getD (setState l s flags guest vcpu b .store) j 0 ≡ getD s j 0
+  unfolding setElements
+  set-only-named plain j out =
+      ap (λ (o : Outcome). getD (o .store) j 0) (sym (set-plain l s flags guest vcpu b plain))
+      ∙ decided (ByteKept j) s [] setTests setDone (λ f. record { kept = refl })
       (λ p. record { kept = applied-frame (contextOf l s (setUse (hasBit0 flags))) (baseOf l s (hasBit0 flags) guest vcpu) b (walked (setUse (hasBit0 flags)) p) (countOf b) j s (omega arith) out }) .kept
 
   record PartKept (i n : ℕ) (o : Outcome) : Type 0 where
     same : bytesAt (o .store) i n ≡ bytesAt s i n
 
   -- any part of the store beside the values of the guest or vCPU named; a refused call names none
-  set-apart : (i n : ℕ) → (Passed setTests → Clear (baseOf l s (hasBit0 flags) guest vcpu) (bytesOf (scopeFor (setUse (hasBit0 flags)))) i n) → bytesAt (setState l s flags guest vcpu b .store) i n ≡ bytesAt s i n
-  unfolding setState
-  set-apart i n c =
-      decided (PartKept i n) s [] setTests setDone (λ f. record { same = refl })
+  set-apart : handsOver flags ≡ false → (i n : ℕ) → (Passed setTests → Clear (baseOf l s (hasBit0 flags) guest vcpu) (bytesOf (scopeFor (setUse (hasBit0 flags)))) i n) → bytesAt (setState l s flags guest vcpu b .store) i n ≡ bytesAt s i n
+  unfolding setElements
+  set-apart plain i n c =
+      ap (λ (o : Outcome). bytesAt (o .store) i n) (sym (set-plain l s flags guest vcpu b plain))
+      ∙ decided (PartKept i n) s [] setTests setDone (λ f. record { same = refl })
       (λ p. record { same = beside (contextOf l s (setUse (hasBit0 flags))) (baseOf l s (hasBit0 flags) guest vcpu) b (walked (setUse (hasBit0 flags)) p) s i n (c p) }) .same
 
-  pub set-beside : (i n : ℕ) → Clear (baseOf l s (hasBit0 flags) guest vcpu) (bytesOf (scopeFor (setUse (hasBit0 flags)))) i n → bytesAt (setState l s flags guest vcpu b .store) i n ≡ bytesAt s i n
-  set-beside i n c = set-apart i n (λ p. c)
+  pub set-beside : handsOver flags ≡ false → (i n : ℕ) → Clear (baseOf l s (hasBit0 flags) guest vcpu) (bytesOf (scopeFor (setUse (hasBit0 flags)))) i n → bytesAt (setState l s flags guest vcpu b .store) i n ≡ bytesAt s i n
+  set-beside plain i n c = set-apart plain i n (λ p. c)
 
   -- ---- get: only value bytes of the buffer
   -- the values of a target that was found lie within the store
-  base-room : Sound l → (usage : Usage) → bytesOf (scopeFor usage) ≡ cond (hasBit0 flags) guestBytes slotBytes → Passed (targetTests l s bit0 flags (hasBit0 flags) guest vcpu)
+  base-room : Sound l → (usage : Usage) → bytesOf (scopeFor usage) ≡ cond (hasBit0 flags) guestBytes slotBytes → Passed (targetTests l s (supportedBits (hasBit0 flags)) flags (hasBit0 flags) guest vcpu)
       → baseOf l s (hasBit0 flags) guest vcpu + bytesOf (scopeFor usage) ≤ length s
   unfolding baseOf
   base-room so usage e p =
@@ -163,26 +167,27 @@ module _ (l : Layout) (s : List ℕ) (flags guest vcpu : ℕ) (b : List ℕ) whe
       go false = refl
 
   -- the tests of the target alone
-  target-passed : (usage : Usage) → Passed (targetTests l s bit0 flags (hasBit0 flags) guest vcpu ++ bufferTests l s usage b) → Passed (targetTests l s bit0 flags (hasBit0 flags) guest vcpu)
-  target-passed usage p = (p .0, (p .1 .0, (p .1 .1 .0, (p .1 .1 .1 .0, tt))))
+  target-passed : (usage : Usage) → Passed (targetTests l s (supportedBits (hasBit0 flags)) flags (hasBit0 flags) guest vcpu ++ bufferTests l s usage b) → Passed (targetTests l s (supportedBits (hasBit0 flags)) flags (hasBit0 flags) guest vcpu)
+  target-passed usage p = (p .0, (p .1 .0, (p .1 .1 .0, (p .1 .1 .1 .0, (p .1 .1 .1 .1 .0, tt)))))
 
-  long-passed : (usage : Usage) → Passed (targetTests l s bit0 flags (hasBit0 flags) guest vcpu ++ bufferTests l s usage b) → 4 ≤ length b
-  long-passed usage p = long-enough b (badLength b) refl (p .1 .1 .1 .1 .0)
+  long-passed : (usage : Usage) → Passed (targetTests l s (supportedBits (hasBit0 flags)) flags (hasBit0 flags) guest vcpu ++ bufferTests l s usage b) → 4 ≤ length b
+  long-passed usage p = long-enough b (badLength b) refl (p .1 .1 .1 .1 .1 .0)
 
   pub all-ready : Sound l → (usage : Usage) → bytesOf (scopeFor usage) ≡ cond (hasBit0 flags) guestBytes slotBytes
-      → Passed (targetTests l s bit0 flags (hasBit0 flags) guest vcpu ++ bufferTests l s usage b) → AllReady (baseOf l s (hasBit0 flags) guest vcpu) b (length s)
+      → Passed (targetTests l s (supportedBits (hasBit0 flags)) flags (hasBit0 flags) guest vcpu ++ bufferTests l s usage b) → AllReady (baseOf l s (hasBit0 flags) guest vcpu) b (length s)
   all-ready so usage e p = ready-all (contextOf l s usage) (baseOf l s (hasBit0 flags) guest vcpu) (length s) (base-room so usage e (target-passed usage p)) b (long-passed usage p) (walked usage p)
 
   abbrev getTests : List (Bool × Fault)
-  getTests = targetTests l s bit0 flags (hasBit0 flags) guest vcpu ++ bufferTests l s (getUse (hasBit0 flags)) b
+  getTests = targetTests l s (supportedBits (hasBit0 flags)) flags (hasBit0 flags) guest vcpu ++ bufferTests l s (getUse (hasBit0 flags)) b
 
   record BufferKept (j : ℕ) (o : Outcome) : Type 0 where
     kept : getD (o .buffer) j 0 ≡ getD b j 0
 
-  pub get-only-named : Sound l → (j : ℕ) → (ValueByte b (countOf b) j → ⊥) → getD (getState l s flags guest vcpu b .buffer) j 0 ≡ getD b j 0
-  unfolding getState
-  get-only-named so j out =
-      decided (BufferKept j) s b getTests (fillWith s (baseOf l s (hasBit0 flags) guest vcpu) b) (λ f. record { kept = refl })
+  pub get-only-named : handsOver flags ≡ false → Sound l → (j : ℕ) → (ValueByte b (countOf b) j → ⊥) → getD (getState l s flags guest vcpu b .buffer) j 0 ≡ getD b j 0
+  unfolding getElements
+  get-only-named plain so j out =
+      ap (λ (o : Outcome). getD (o .buffer) j 0) (sym (get-plain l s flags guest vcpu b plain))
+      ∙ decided (BufferKept j) s b getTests (fillWith s (baseOf l s (hasBit0 flags) guest vcpu) b) (λ f. record { kept = refl })
       (λ p. record { kept = filled-frame (baseOf l s (hasBit0 flags) guest vcpu) s b (all-ready so (getUse (hasBit0 flags)) get-room p) (countOf b) j (omega arith) out }) .kept
 
 -- ---- setting one guest or vCPU leaves the others' values
@@ -200,8 +205,8 @@ guests-apart l g k a b n = go (decLt g k)
     go (yes h) = left (omega arith)
     go (no h) = right (omega arith)
 
--- the store, the guest and the vCPU are any: a call that is refused changes nothing
-module _ (l : Layout) (s : List ℕ) (flags guest vcpu : ℕ) (b : List ℕ) where
+-- the store, the guest and the vCPU are any: a call that is refused changes nothing. The flags are any but those of a hand-over.
+module _ (l : Layout) (s : List ℕ) (flags guest vcpu : ℕ) (b : List ℕ) (plain : handsOver flags ≡ false) where
   -- by where the values of the call start
   clear-of : (base bytes i n : ℕ) → baseOf l s (hasBit0 flags) guest vcpu ≡ base → cond (hasBit0 flags) guestBytes slotBytes ≡ bytes → Clear base bytes i n
       → Clear (baseOf l s (hasBit0 flags) guest vcpu) (bytesOf (scopeFor (setUse (hasBit0 flags)))) i n
@@ -222,13 +227,13 @@ module _ (l : Layout) (s : List ℕ) (flags guest vcpu : ℕ) (b : List ℕ) whe
     -- a thread set leaves the values of every slot but the vCPU's
     pub other-slot : (j : ℕ) → slotOf l (header l s) guest vcpu ≢ j → bytesAt (setState l s flags guest vcpu b .store) (slotAt l j) slotBytes ≡ bytesAt s (slotAt l j) slotBytes
     other-slot j n =
-        set-beside l s flags guest vcpu b (slotAt l j) slotBytes
+        set-beside l s flags guest vcpu b plain (slotAt l j) slotBytes
         (clear-of (slotAt l (slotOf l (header l s) guest vcpu)) slotBytes (slotAt l j) slotBytes thread-base thread-bytes (slots-apart l (slotOf l (header l s) guest vcpu) j n))
 
     -- and every guest's
     pub every-guest : Sound l → (g : ℕ) → g ≤ l .guests → bytesAt (setState l s flags guest vcpu b .store) (guestAt l g) guestBytes ≡ bytesAt s (guestAt l g) guestBytes
     every-guest so g hi =
-        set-apart l s flags guest vcpu b (guestAt l g) guestBytes
+        set-apart l s flags guest vcpu b plain (guestAt l g) guestBytes
         (λ p. let r = guest-named p in
         clear-of (slotAt l (slotOf l (header l s) guest vcpu)) slotBytes (guestAt l g) guestBytes thread-base thread-bytes
         (right (omega (arith, so .guests-fit, r .0, r .1))))
@@ -244,12 +249,12 @@ module _ (l : Layout) (s : List ℕ) (flags guest vcpu : ℕ) (b : List ℕ) whe
     -- a guest-wide set leaves every other guest's values
     pub other-guest : (g : ℕ) → 1 ≤ g → guest ≢ g → bytesAt (setState l s flags guest vcpu b .store) (guestAt l g) guestBytes ≡ bytesAt s (guestAt l g) guestBytes
     other-guest g lo n =
-        set-apart l s flags guest vcpu b (guestAt l g) guestBytes
+        set-apart l s flags guest vcpu b plain (guestAt l g) guestBytes
         (λ p. clear-of (guestAt l guest) guestBytes (guestAt l g) guestBytes wide-base wide-bytes (guests-apart l guest g (guest-named p .0) lo n))
 
     -- and every slot's
     pub every-slot : Sound l → (j : ℕ) → bytesAt (setState l s flags guest vcpu b .store) (slotAt l j) slotBytes ≡ bytesAt s (slotAt l j) slotBytes
     every-slot so j =
-        set-apart l s flags guest vcpu b (slotAt l j) slotBytes
+        set-apart l s flags guest vcpu b plain (slotAt l j) slotBytes
         (λ p. let r = guest-named p in
         clear-of (guestAt l guest) guestBytes (slotAt l j) slotBytes wide-base wide-bytes (left (omega (arith, so .guests-fit, r .0, r .1))))

@@ -16,29 +16,34 @@ use Rattle.answer.specs.declared.Fault.{Fault}
 use Rattle.gsb.specs.Walk.{countOf}
 use Rattle.transfer.specs.Transfer.{applied}
 use Rattle.store.specs.declared.Layout.{Layout}
-use Rattle.store.specs.Layout.{Sound, small, guestAt, guestBytes}
+use Rattle.store.specs.Layout.{Sound, small, guestAt, guestBytes, slotBytes}
 use Rattle.store.specs.Search.{tally}
 use Rattle.store.specs.Header.{header, word, wordOf, isUsed, guestOf, holds, lacks, freeSlot, isDead, freeGuest, usedSlots}
 use Rattle.store.specs.Store.{wellFormed, fresh, putLive, withGuest, withVcpu}
 use Rattle.store.proofs.Search.{first-bounds, tally-ext, tally-more, tally-sum, tally-all}
-use Rattle.store.proofs.WordFields.{word-same, word-other, word-live}
+use Rattle.store.proofs.WordFields.{word-live}
+use Rattle.store.proofs.Marks.{word-slot, word-slot-else}
 use Rattle.store.proofs.Frame.{header-full, header-values, header-caps, header-live, formed}
 use Rattle.store.proofs.Kept.{words-are, caps-word}
 use Rattle.store.proofs.Small.{sound-small, fresh-good}
 use Rattle.admission.specs.Refusals.{Outcome, refuse}
 use Rattle.admission.specs.Target.{baseOf}
-use Rattle.state.specs.State.{getState, setState}
+use Rattle.handover.specs.Form.{valuesOf}
+use Rattle.state.specs.HandOver.{takeVcpu, giveVcpu}
+use Rattle.state.specs.State.{getElements, getState, setElements, setState}
+use Rattle.state.proofs.HandOvers.{get-ways, set-ways}
 use Rattle.run.specs.Run.{inputOf, ranStore, ran, runVcpu}
 use Rattle.guests.specs.Guests.{createGuest}
 use Rattle.l0.specs.Calls.{getCapabilities, setCapabilities, guestClock, Call, GetCapabilities, SetCapabilities, CreateGuest, CreateVcpu, GetState, SetState, RunVcpu, DeleteGuest, GuestClock, outcome, after}
 use Rattle.promises.specs.History.{registers, isAccepted, Count, nothing, deletes, isDropped, howMany, without, counting, countedOver, history, freeSlots}
 use Rattle.promises.proofs.Kept.{decided, refused-unchanged, applied-header, base-values, well-formed-kept, fresh-history}
 use Rattle.promises.proofs.Told.{zero-none}
+use Rattle.promises.proofs.HandedOver.{take-slotted, give-slotted, take-leaves, handed-word}
 use Rattle.promises.proofs.Lowest.{VcpuMade, vcpu-made, new-word, made-header, free-slot, freed-slot, kept-slot}
 
 -- ---- a call that leaves the words of the store s as they were
 record Same (l : Layout) (s : List ℕ) (o : Outcome) : Type 0 where
-  words : (a : ℕ) → word l (header l (o .store)) a ≡ word l (header l s) a
+  words : (a : ℕ) → a < l .slots → word l (header l (o .store)) a ≡ word l (header l s) a
 
 -- ---- the words of a store are those of the vCPUs counted: as many of every kind of guest
 abbrev named : Layout → List ℕ → (ℕ → Bool) → ℕ → Bool
@@ -49,7 +54,7 @@ record Matches (l : Layout) (s : List ℕ) (vs : List (ℕ × ℕ)) : Type 0 whe
 
 same-matches : (l : Layout) (s : List ℕ) (vs : List (ℕ × ℕ)) (o : Outcome) → Same l s o → Matches l s vs → Matches l (o .store) vs
 same-matches l s vs o r m = record {
-  as-many = λ p. tally-ext (named l (header l (o .store)) p) (named l (header l s) p) (l .slots) (λ a k. ap (λ (w : ℕ). isUsed l w && p (guestOf l w)) (r .words a)) ∙ m .as-many p;
+  as-many = λ p. tally-ext (named l (header l (o .store)) p) (named l (header l s) p) (l .slots) (λ a k. ap (λ (w : ℕ). isUsed l w && p (guestOf l w)) (r .words a k)) ∙ m .as-many p;
 }
 
 -- ---- lists of vCPUs
@@ -78,14 +83,14 @@ module _ (l : Layout) (so : Sound l) (s : List ℕ) (good : wellFormed l s ≡ t
   full = header-full l so s (formed l s good .long)
 
   kept : (b : List ℕ) (f : Fault) → Same l s (refuse s b f)
-  kept b f = record { words = λ a. refl }
+  kept b f = record { words = λ a la. refl }
 
   -- ---- the calls that leave the words
   caps-same : (flags bitmap : ℕ) → Same l s (setCapabilities l s flags bitmap)
   unfolding setCapabilities
   caps-same flags bitmap =
       decided (Same l s) s [] _ _ (kept [])
-      (λ p. record { words = λ a. ap (λ (h : List ℕ). word l h a) (header-caps l so s bitmap) ∙ caps-word l so (header l s) bitmap a })
+      (λ p. record { words = λ a la. ap (λ (h : List ℕ). word l h a) (header-caps l so s bitmap) ∙ caps-word l so (header l s) bitmap a })
 
   guest-words : (g : ℕ) → 1 ≤ g → g ≤ l .guests → (a : ℕ) → word l (header l (withGuest l s g)) a ≡ word l (header l s) a
   unfolding withGuest
@@ -97,13 +102,29 @@ module _ (l : Layout) (so : Sound l) (s : List ℕ) (good : wellFormed l s ≡ t
   unfolding createGuest freeGuest
   guest-same flags token =
       decided (Same l s) s [] _ _ (kept [])
-      (λ p. record { words = guest-words (freeGuest l (header l s)) (first-bounds (isDead l (header l s)) (l .guests) 1 .0) (ltb-false _ _ (p .1 .1 .1 .0)) })
+      (λ p. record { words = λ a la. guest-words (freeGuest l (header l s)) (first-bounds (isDead l (header l s)) (l .guests) 1 .0) (ltb-false _ _ (p .1 .1 .1 .0)) a })
+
+  elements-same : (flags guest vcpu : ℕ) (b : List ℕ) → Same l s (setElements l s flags guest vcpu b)
+  unfolding setElements
+  elements-same flags guest vcpu b =
+      decided (Same l s) s [] _ _ (kept [])
+      (λ p. record { words = λ a la. ap (λ (h : List ℕ). word l h a) (applied-header l so _ b (countOf b) s (search (base-values, so))) })
+
+  take-same : (guest vcpu : ℕ) (b : List ℕ) → Same l s (takeVcpu l s guest vcpu b)
+  unfolding takeVcpu
+  take-same guest vcpu b =
+      decided (Same l s) s b _ _ (kept b)
+      (λ p. let f = take-slotted l s guest vcpu b p in
+      record { words = λ a la. ap (λ (t : List ℕ). word l (header l t) a) (take-leaves l s guest vcpu b) ∙ handed-word l so s _ (f .below) (zeros slotBytes) 1 (formed l s good .long) a la })
+
+  give-same : (guest vcpu : ℕ) (b : List ℕ) → Same l s (giveVcpu l s guest vcpu b)
+  unfolding giveVcpu
+  give-same guest vcpu b =
+      decided (Same l s) s [] _ _ (kept [])
+      (λ p. let f = give-slotted l s guest vcpu b p in record { words = λ a la. handed-word l so s _ (f .below) (valuesOf b) 0 (formed l s good .long) a la })
 
   set-same : (flags guest vcpu : ℕ) (b : List ℕ) → Same l s (setState l s flags guest vcpu b)
-  unfolding setState
-  set-same flags guest vcpu b =
-      decided (Same l s) s [] _ _ (kept [])
-      (λ p. record { words = λ a. ap (λ (h : List ℕ). word l h a) (applied-header l so _ b (countOf b) s (search (base-values, so))) })
+  set-same flags guest vcpu b = set-ways l s flags guest vcpu b (Same l s) (λ e. elements-same flags guest vcpu b) (λ t. give-same guest vcpu b)
 
   run-same : (flags guest vcpu : ℕ) (input output effect : List ℕ) (exit : ℕ) → Same l s (runVcpu l s flags guest vcpu input output effect exit)
   unfolding runVcpu ran ranStore
@@ -112,19 +133,22 @@ module _ (l : Layout) (so : Sound l) (s : List ℕ) (good : wellFormed l s ≡ t
       let b = inputOf s base input in
       let v = base-values l so s false guest vcpu in
       decided (Same l s) s output _ _ (kept output)
-      (λ p. record { words = λ a. ap (λ (h : List ℕ). word l h a) (applied-header l so base effect (countOf effect) (applied base b (countOf b) s) v ∙ applied-header l so base b (countOf b) s v) })
+      (λ p. record { words = λ a la. ap (λ (h : List ℕ). word l h a) (applied-header l so base effect (countOf effect) (applied base b (countOf b) s) v ∙ applied-header l so base b (countOf b) s v) })
+
+  got-same : (flags guest vcpu : ℕ) (b : List ℕ) → Same l s (getElements l s flags guest vcpu b)
+  unfolding getElements
+  got-same flags guest vcpu b = decided (Same l s) s b _ _ (kept b) (λ p. record { words = λ a la. refl })
 
   get-same : (flags guest vcpu : ℕ) (b : List ℕ) → Same l s (getState l s flags guest vcpu b)
-  unfolding getState
-  get-same flags guest vcpu b = decided (Same l s) s b _ _ (kept b) (λ p. record { words = λ a. refl })
+  get-same flags guest vcpu b = get-ways l s flags guest vcpu b (Same l s) (λ e. got-same flags guest vcpu b) (λ t. take-same guest vcpu b)
 
   told-same : (flags : ℕ) → Same l s (getCapabilities l s flags)
   unfolding getCapabilities
-  told-same flags = decided (Same l s) s [] _ _ (kept []) (λ p. record { words = λ a. refl })
+  told-same flags = decided (Same l s) s [] _ _ (kept []) (λ p. record { words = λ a la. refl })
 
   clock-same : (guest timebase : ℕ) → Same l s (guestClock l s guest timebase)
   unfolding guestClock
-  clock-same guest timebase = decided (Same l s) s [] _ _ (kept []) (λ p. record { words = λ a. refl })
+  clock-same guest timebase = decided (Same l s) s [] _ _ (kept []) (λ p. record { words = λ a la. refl })
 
   -- ---- words that are zero or used
   zero-unused : isUsed l 0 ≡ false
@@ -151,13 +175,13 @@ module _ (l : Layout) (so : Sound l) (s : List ℕ) (good : wellFormed l s ≡ t
     new-named =
         let small = x .small in
         let w = wordOf l g v in
-        let e : word l made free ≡ w = ap (λ (h : List ℕ). word l h free) (made-header l so s flags g v x) ∙ word-same l so (header l s) full free (x .room) w (new-word l so s flags g v x) in
+        let e : word l made free ≡ w = ap (λ (h : List ℕ). word l h free) (made-header l so s flags g v x) ∙ word-slot l so (header l s) full free (x .room) w (new-word l so s flags g v x) in
         let guest : guestOf l w ≡ g = omega arith in
         ap (λ (y : ℕ). isUsed l y && p (guestOf l y)) e ∙ ap₂ (λ (t : Bool) (k : ℕ). t && p k) (used w (omega arith)) guest
 
-    other-named : (a : ℕ) → a ≢ free → named l made p a ≡ named l (header l s) p a
-    other-named a n =
-        ap (λ (w : ℕ). isUsed l w && p (guestOf l w)) (ap (λ (h : List ℕ). word l h a) (made-header l so s flags g v x) ∙ word-other l so (header l s) full free (x .room) (wordOf l g v) a n)
+    other-named : (a : ℕ) → a < l .slots → a ≢ free → named l made p a ≡ named l (header l s) p a
+    other-named a la n =
+        ap (λ (w : ℕ). isUsed l w && p (guestOf l w)) (ap (λ (h : List ℕ). word l h a) (made-header l so s flags g v x) ∙ word-slot-else l so (header l s) full free (x .room) (wordOf l g v) a la n)
 
     was-free : named l (header l s) p free ≡ false
     was-free = unused (header l s) p free (free-slot l s (x .room) .free)
@@ -167,15 +191,15 @@ module _ (l : Layout) (so : Sound l) (s : List ℕ) (good : wellFormed l s ≡ t
       where
         go : (t : Bool) → p g ≡ t → tally (named l made p) (l .slots) ≡ cond t 1 0 + tally (named l (header l s) p) (l .slots)
         go true q =
-            let e : tally (named l made p) (l .slots) ≡ tally (named l (header l s) p) (l .slots) + 1 = tally-more (named l (header l s) p) (named l made p) (l .slots) free (x .room) was-free (new-named ∙ q) (λ a k n. sym (other-named a n)) in
+            let e : tally (named l made p) (l .slots) ≡ tally (named l (header l s) p) (l .slots) + 1 = tally-more (named l (header l s) p) (named l made p) (l .slots) free (x .room) was-free (new-named ∙ q) (λ a k n. sym (other-named a k n)) in
             omega (arith, e)
         go false q =
-            let e : tally (named l made p) (l .slots) ≡ tally (named l (header l s) p) (l .slots) = tally-ext (named l made p) (named l (header l s) p) (l .slots) (λ a k. at a (ℕ-discrete a free)) in
+            let e : tally (named l made p) (l .slots) ≡ tally (named l (header l s) p) (l .slots) = tally-ext (named l made p) (named l (header l s) p) (l .slots) (λ a k. at a k (ℕ-discrete a free)) in
             omega (arith, e)
           where
-            at : (a : ℕ) → Dec (a ≡ free) → named l made p a ≡ named l (header l s) p a
-            at a (yes z) = ap (named l made p) z ∙ new-named ∙ q ∙ sym was-free ∙ ap (named l (header l s) p) (sym z)
-            at a (no n) = other-named a n
+            at : (a : ℕ) → a < l .slots → Dec (a ≡ free) → named l made p a ≡ named l (header l s) p a
+            at a k (yes z) = ap (named l made p) z ∙ new-named ∙ q ∙ sym was-free ∙ ap (named l (header l s) p) (sym z)
+            at a k (no n) = other-named a k n
 
   vcpu-matches : (flags g v : ℕ) (vs : List (ℕ × ℕ)) → registers l s (CreateVcpu flags g v) .r3 ≡ 0 → Matches l s vs → Matches l (outcome l s (CreateVcpu flags g v) .store) ((g, v) ∷ vs)
   unfolding outcome howMany
@@ -204,7 +228,7 @@ module _ (l : Layout) (so : Sound l) (s : List ℕ) (good : wellFormed l s ≡ t
       at : (p : ℕ → Bool) (a w : ℕ) → w ≡ word l (header l s) a → a < l .slots → (d : Bool) → deletes flags guest (guestOf l w) ≡ d
           → named l (header l (outcome l s (DeleteGuest flags guest) .store)) p a ≡ (isUsed l w && (not d && p (guestOf l w)))
       at p a w q k true d = unused (header l (outcome l s (DeleteGuest flags guest) .store)) p a (freed-slot l so s flags guest e a k (ap (λ (y : ℕ). deletes flags guest (guestOf l y)) (sym q) ∙ d)) ∙ sym (both-false (isUsed l w))
-      at p a w q k false d = ap (λ (y : ℕ). isUsed l y && p (guestOf l y)) (kept-slot l so s flags guest e a (ap (λ (y : ℕ). deletes flags guest (guestOf l y)) (sym q) ∙ d) ∙ sym q)
+      at p a w q k false d = ap (λ (y : ℕ). isUsed l y && p (guestOf l y)) (kept-slot l so s flags guest e a k (ap (λ (y : ℕ). deletes flags guest (guestOf l y)) (sym q) ∙ d) ∙ sym q)
 
   -- ---- one call
   call-matches : (n : Count) (c : Call) → registers l s c .r3 ≡ 0 → Matches l s (n .vcpus) → Matches l (outcome l s c .store) (counting n c .vcpus)

@@ -1,4 +1,4 @@
--- L12: "From then on, over any calls from a fresh store, each live guest's PVR is 0 or an agreed one; I want that proved." The theorem is
+-- 02, L12: "From then on, over any calls from a fresh store, each live guest's PVR is 0 or an agreed one; I want that proved." The theorem is
 -- `pvr-agreed`.
 use Prim.Native.Nat.{ℕ, _+_}
 use mathlib.Core.Path.{_≡_}

@@ -1,16 +1,18 @@
--- 01, "Around each edge": its starred cases in its order, as one table. A row is what the rules give and the number that 01 says.
+-- 01, "Around each edge": its starred cases in its order, as one table, and behind them the numbers of 02's requests. A row is what the rules
+-- give and the number that the paper says.
 -- Every answer is one of a call on a store that calls made from a fresh one.
-use Prim.Native.Nat.{ℕ, suc, _-_, _*_, _^_}
+use Prim.Native.Nat.{ℕ, suc, _+_, _-_, _*_, _^_}
 use mathlib.Core.Bool.{Bool, true, _&&_, cond}
 use mathlib.Core.List.{List, [], _∷_, _++_}
 use lib.Dec.{eqb}
-use Rattle.octets.specs.Bytes.{bytesAt, be, digits}
+use lib.ListN.{length}
+use Rattle.octets.specs.Bytes.{bytesAt, be, digits, zeros}
 use Rattle.elements.specs.declared.Scope.the-variants.{Thread}
 use Rattle.elements.specs.Table.{position}
-use Rattle.store.specs.Layout.{small, slotBytes, slotAt}
+use Rattle.store.specs.Layout.{small, slotBytes, guestAt, slotAt}
 use Rattle.store.specs.Header.{header, word, wordOf}
 use Rattle.store.specs.Store.{fresh}
-use Rattle.admission.specs.Refusals.{bit0}
+use Rattle.admission.specs.Refusals.{bit0, bit1}
 use Rattle.l0.specs.Calls.{Call, CreateGuest, CreateVcpu, GetState, SetState, RunVcpu, GuestClock, outcome, after}
 use Rattle.promises.specs.History.{registers}
 
@@ -40,6 +42,10 @@ ready = after small (fresh small) (newGuest ∷ CreateVcpu 0 1 0 ∷ [])
 -- slot 0 for vCPU 2047 of guest 3, slot 1 for vCPU 0 of guest 1
 unfoldable pub twoSlots : List ℕ
 twoSlots = after small (fresh small) (newGuest ∷ newGuest ∷ newGuest ∷ CreateVcpu 0 3 2047 ∷ CreateVcpu 0 1 0 ∷ [])
+
+-- guest 1's vCPU 0, whose values are zero, is taken
+unfoldable pub parked : List ℕ → List ℕ
+parked s = outcome small s (GetState bit1 1 0 (zeros 1844)) .store
 
 -- ---- calls on guest 1's vCPU 0
 abbrev pub setThread : List ℕ → Call
@@ -85,9 +91,17 @@ readAfter s b = be (outcome small (outcome small s (setThread b) .store) (getThr
 unfoldable pub clockWith : List ℕ → ℕ → ℕ → ℕ
 clockWith s offset timebase = r4 (outcome small s (SetState bit0 1 0 (one 0x0004 8 offset)) .store) (GuestClock 1 timebase)
 
--- ---- the table, where s is `ready` and t is `twoSlots`
-unfoldable pub edgesOf : List ℕ → List ℕ → List (ℕ × ℕ)
-edgesOf s t =
+-- what a guest-wide get of an element of 8 bytes reads
+unfoldable pub readWide : List ℕ → ℕ → ℕ
+readWide s id = be (outcome small s (GetState bit0 1 0 (one id 8 0)) .buffer) 8 8
+
+-- giving back a form without values: its first byte has the version, 1, and four bits of the id
+abbrev pub giveEmpty : ℕ → ℕ → Call
+giveEmpty byte len = SetState bit1 1 0 (byte ∷ zeros (len - 1))
+
+-- ---- the table, where s is `ready`, t is `twoSlots`, and u is s with the vCPU taken
+unfoldable pub edgesOf : List ℕ → List ℕ → List ℕ → List (ℕ × ℕ)
+edgesOf s t u =
     -- "0x101F is at byte 288 of a slot, 0x1020 at 296; 0x1054 is 6."
     (position Thread 0x101F, 288) ∷ (placed s 0x101F 8, 288) ∷ (position Thread 0x1020, 296) ∷ (placed s 0x1020 8, 296) ∷ (r3 s (setThread (one 0x1054 8 0)), 6)
     -- "0x200E at 768, 0x303F at 1,780; 0x200F is 6."
@@ -112,9 +126,21 @@ edgesOf s t =
     ∷ (r5 s (setThread goodThenBad), 16) ∷ (r5 (registered s) (runThread 0 goodThenBad), 1)
     -- "Slot word, guest 3, vCPU 2047: 0x9FFF; guest 1, vCPU 0: 0x8800."
     ∷ (wordOf small 3 2047, 0x9FFF) ∷ (word small (header small t) 0, 0x9FFF) ∷ (wordOf small 1 0, 0x8800) ∷ (word small (header small t) 1, 0x8800)
-    -- L2: "The starred clock case becomes: offset 2^64-1 acts as 0, clock 5. Offset 1, timebase 5 gives 16,777,221."
+    -- 02, L2: "The starred clock case becomes: offset 2^64-1 acts as 0, clock 5. Offset 1, timebase 5 gives 16,777,221."
     ∷ (clockWith s (2 ^ 64 - 1) 5, 5) ∷ (clockWith s 1 5, 16777221)
+    -- 02, L1: "0x0001 now reads 1,844"; "The store gains two bytes of taken marks after the slot words (29,580 bytes; values move by two)"
+    ∷ (readWide s 0x0001, 1844) ∷ (length s, 29580) ∷ (guestAt small 1, 44) ∷ (slotAt small 0, 460) ∷ (be u 42 2, 0x8000)
+    -- "Both bits together are answer 2 with R4 1."
+    ∷ (r3 s (GetState (bit0 + bit1) 1 0 (digits 4 0)), 2) ∷ (r4 s (GetState (bit0 + bit1) 1 0 (digits 4 0)), 1)
+    ∷ (r3 s (SetState (bit0 + bit1) 1 0 (digits 4 0)), 2) ∷ (r4 s (SetState (bit0 + bit1) 1 0 (digits 4 0)), 1)
+    -- "5 also on taking under 1,844 bytes (000's rule), on giving back under 24"
+    ∷ (r3 s (GetState bit1 1 0 (zeros 1843)), 5) ∷ (r3 s (GetState bit1 1 0 (zeros 1844)), 0) ∷ (r3 u (giveEmpty 0x10 23), 5) ∷ (r3 u (giveEmpty 0x10 24), 0)
+    -- "16 in get, set and run (create keeps 10) where the vCPU is taken, on giving back where it is not, after 4"
+    ∷ (r3 u (getThread (digits 4 0)), 16) ∷ (r3 u (setThread (digits 4 0)), 16) ∷ (r3 u (runThread 0 (digits 4 0)), 16) ∷ (r3 u (CreateVcpu 0 1 0), 10)
+    ∷ (r3 u (GetState bit1 1 0 (zeros 1844)), 16) ∷ (r3 s (giveEmpty 0x10 24), 16) ∷ (r3 s (giveEmpty 0x10 23), 16) ∷ (r3 s (SetState bit1 1 1 (zeros 24)), 4)
+    -- "17 after 5 where the bytes do not begin with a form of this vCPU": another version, another id
+    ∷ (r3 u (giveEmpty 0x20 24), 17) ∷ (r3 u (giveEmpty 0x11 24), 17) ∷ (r3 u (giveEmpty 0x20 23), 5)
     ∷ []
 
 unfoldable pub starred : List (ℕ × ℕ)
-starred = edgesOf ready twoSlots
+starred = edgesOf ready twoSlots (parked ready)

@@ -183,7 +183,7 @@ slot-not f e = let z : _≡_ {A = ℕ} 0 1 = cc in omega arith
 slot-same : {b c m n : ℕ} → Slot b m ≡ Slot c n → (b ≡ c) × (m ≡ n)
 slot-same e = (cc, cc)
 
--- what the tests 1 to 12 say of the buffers and of the slot
+-- what the tests 1 to 12 and 16 say of the buffers and of the slot
 pub record RunFound (l : Layout) (s : List ℕ) (base n inputLength outputLength : ℕ) : Type 0 where
   pub long : length s ≡ l .size
   pub room : base + slotBytes ≤ l .size
@@ -197,7 +197,7 @@ unfolding baseOf
 run-found l so s flags guest vcpu need inputLength outputLength p =
     let k : slotOf l (header l s) guest vcpu < l .slots = leb-false _ _ (p .1 .1 .1 .0) in
     let base = baseOf l s false guest vcpu in
-    let t = p .1 .1 .1 .1 in
+    let t = p .1 .1 .1 .1 .1 in
     let i = both (leb 4 (inputSize s base)) (leb (inputSize s base) 65536) (not-false _ (t .0)) in
     let o = both (leb 124 (outputSize s base)) (leb (outputSize s base) 65536) (not-false _ (t .1 .0)) in
     record {
@@ -328,14 +328,14 @@ module _ (l : Layout) (s : List ℕ) (flags guest vcpu : ℕ) (input : List ℕ)
     passed = judged-passed tests (call-found .0)
 
     pub call-known : known exit ≡ true
-    call-known = not-false _ (passed .1 .1 .1 .1 .1 .1 .1 .1 .1 .0)
+    call-known = not-false _ (passed .1 .1 .1 .1 .1 .1 .1 .1 .1 .1 .0)
 
     module _ (so : Sound l) where
       is-found : RunFound l s base n (length input) outputLength
       is-found =
           let p = passed in
           let z = slot-same (call-found .1) in
-          let y = run-found l so s flags guest vcpu 0 (length input) outputLength (p .0, (p .1 .0, (p .1 .1 .0, (p .1 .1 .1 .0, (p .1 .1 .1 .1 .0, (p .1 .1 .1 .1 .1 .0, (p .1 .1 .1 .1 .1 .1 .0, (p .1 .1 .1 .1 .1 .1 .1 .0, tt)))))))) in
+          let y = run-found l so s flags guest vcpu 0 (length input) outputLength (p .0, (p .1 .0, (p .1 .1 .0, (p .1 .1 .1 .0, (p .1 .1 .1 .1 .0, (p .1 .1 .1 .1 .1 .0, (p .1 .1 .1 .1 .1 .1 .0, (p .1 .1 .1 .1 .1 .1 .1 .0, (p .1 .1 .1 .1 .1 .1 .1 .1 .0, tt))))))))) in
           subst (λ (x : ℕ). RunFound l s x n (length input) outputLength) (z .0) (subst (λ (w : ℕ). RunFound l s (baseOf l s false guest vcpu) w (length input) outputLength) (z .1) y)
 
       pub call-lends : n ≤ length input
@@ -349,13 +349,13 @@ module _ (l : Layout) (s : List ℕ) (flags guest vcpu : ℕ) (input : List ℕ)
 
       pub call-input : (part : List ℕ) → part ≡ bytesAt input 0 n → AllReady base part (length s)
       call-input part p =
-          let w : firstBad (contextOf l s RunInput) part ≡ Done = ap (firstBad (contextOf l s RunInput)) (call-part part p) ∙ stopped-not _ (passed .1 .1 .1 .1 .1 .1 .1 .1 .0) in
+          let w : firstBad (contextOf l s RunInput) part ≡ Done = ap (firstBad (contextOf l s RunInput)) (call-part part p) ∙ stopped-not _ (passed .1 .1 .1 .1 .1 .1 .1 .1 .1 .0) in
           let k : 4 ≤ length part = omega (arith, ap length p, length-bytesAt input 0 n (omega (arith, is-found .lent)), is-found .some) in
           ready-as (contextOf l s RunInput) base (length s) part w call-room k
 
       pub call-effect : AllReady base effect (length s)
       call-effect =
-          let t = passed .1 .1 .1 .1 .1 .1 .1 .1 .1 .1 in
+          let t = passed .1 .1 .1 .1 .1 .1 .1 .1 .1 .1 .1 in
           ready-as (contextOf l s InEffect) base (length s) effect (stopped-not _ (t .1 .0)) call-room (long-enough effect (badLength effect) refl (t .0))
 
 -- the call

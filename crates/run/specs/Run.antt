@@ -1,4 +1,5 @@
--- 01, "Run", and "Answers": "run 1, 2, 3, 4, 11, 12, the input's elements, 13, 14"; "Within 11 and 12 input comes first."
+-- 01, "Run", and "Answers": "run 1, 2, 3, 4, 11, 12, the input's elements, 13, 14"; "Within 11 and 12 input comes first." 02, L1's 16 is
+-- right behind 4.
 use Prim.Native.Nat.{ℕ, _+_, _^_}
 use mathlib.Core.Bool.{Bool, false, not, _||_}
 use mathlib.Core.List.{List, [], _∷_, _++_}
@@ -56,7 +57,7 @@ exitTests l s effect exit =
     ∷ (isStopped (firstBad (contextOf l s InEffect) effect), effectFault (firstBad (contextOf l s InEffect) effect))
     ∷ []
 
--- 1 to 12
+-- 1 to 12 and 16
 abbrev pub runTargetTests : Layout → List ℕ → ℕ → ℕ → ℕ → ℕ → ℕ → ℕ → List (Bool × Fault)
 runTargetTests l s flags guest vcpu need inputLength outputLength =
     targetTests l s runBits flags false guest vcpu ++ lentTests s (baseOf l s false guest vcpu) need inputLength outputLength

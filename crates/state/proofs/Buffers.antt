@@ -2,7 +2,7 @@
 use mathlib.Core.Path.{_≡_, refl, sym, ap, ap₂, _∙_}
 use mathlib.Core.Bool.{Bool, true, false, cond}
 use mathlib.Core.List.{List, [], _++_}
-use Prim.Native.Nat.{ℕ, _+_, _^_, _≤_}
+use Prim.Native.Nat.{ℕ, _+_, _≤_}
 use native.Mathlib.Omega.{arith}
 use lib.ListN.{length}
 use Rattle.answer.specs.declared.Answer.{Answer}
@@ -29,9 +29,9 @@ use Rattle.admission.specs.declared.Admission.{Admission}
 use Rattle.admission.specs.declared.Admission.the-variants.{Admitted, Refused}
 use Rattle.admission.specs.declared.Target.{Target}
 use Rattle.admission.specs.declared.Target.the-variants.{Refused as TargetRefused, At}
-use Rattle.admission.specs.Refusals.{Outcome, success, refusal, accept, refuse, decide, judgement, bit0, hasBit0}
+use Rattle.admission.specs.Refusals.{Outcome, success, refusal, accept, refuse, decide, judgement, hasBit0}
 use Rattle.admission.specs.Target.{targetTests, baseOf, targetOf}
-use Rattle.state.specs.State.{contextOf, isStopped, faultOf, bufferTests, setUse, setState, getUse, fillWith, getState}
+use Rattle.state.specs.State.{contextOf, isStopped, faultOf, bufferTests, supportedBits, setUse, setElements, getUse, fillWith, getElements}
 use Rattle.state.specs.Private.{bufferGood, setAt, getAt, bytesFor}
 use Rattle.admission.proofs.Judging.{begin-refused, begin-admitted, all-refused, all-admitted}
 use Rattle.admission.proofs.Targets.{target-judged, target-found}
@@ -132,47 +132,50 @@ set-room wide u base size e h = omega (arith, h, set-bytes wide, ap bytesFor e)
 pub get-room : (wide : Bool) (u : Usage) (base size : ℕ) → u ≡ getUse wide → base + cond wide guestBytes slotBytes ≤ size → base + bytesFor u ≤ size
 get-room wide u base size e h = omega (arith, h, get-bytes wide, ap bytesFor e)
 
-module _ (l : Layout) (e : l ≡ small) (s : List ℕ) (flags : ℕ) (wide : Bool) (w : wide ≡ hasBit0 flags) (guest vcpu : ℕ) (b : List ℕ) (a : Target) (q : a ≡ targetOf l s (2 ^ 63) flags wide guest vcpu) (r : Answer) where
+module _ (l : Layout) (e : l ≡ small) (s : List ℕ) (flags : ℕ) (wide : Bool) (w : wide ≡ hasBit0 flags) (guest vcpu : ℕ) (b : List ℕ) (a : Target) (x : ℕ) (m : x ≡ supportedBits wide) (q : a ≡ targetOf l s x flags wide guest vcpu) (r : Answer) where
   abbrev tests : List (Bool × Fault)
-  tests = targetTests l s bit0 flags wide guest vcpu
+  tests = targetTests l s (supportedBits wide) flags wide guest vcpu
 
-  set-as : decide s [] (tests ++ bufferTests l s (setUse wide) b) (accept 0 (applied (baseOf l s wide guest vcpu) b (countOf b) s)) ≡ setState small s flags guest vcpu b
-  unfolding setState
+  at : a ≡ targetOf l s (supportedBits wide) flags wide guest vcpu
+  at = q ∙ ap (λ (y : ℕ). targetOf l s y flags wide guest vcpu) m
+
+  set-as : decide s [] (tests ++ bufferTests l s (setUse wide) b) (accept 0 (applied (baseOf l s wide guest vcpu) b (countOf b) s)) ≡ setElements small s flags guest vcpu b
+  unfolding setElements
   set-as =
-      ap (λ (t : Bool). decide s [] (targetTests l s bit0 flags t guest vcpu ++ bufferTests l s (setUse t) b) (accept 0 (applied (baseOf l s t guest vcpu) b (countOf b) s))) w
-      ∙ ap (λ (m : Layout). setState m s flags guest vcpu b) e
+      ap (λ (t : Bool). decide s [] (targetTests l s (supportedBits t) flags t guest vcpu ++ bufferTests l s (setUse t) b) (accept 0 (applied (baseOf l s t guest vcpu) b (countOf b) s))) w
+      ∙ ap (λ (k : Layout). setElements k s flags guest vcpu b) e
 
-  get-as : decide s b (tests ++ bufferTests l s (getUse wide) b) (fillWith s (baseOf l s wide guest vcpu) b) ≡ getState small s flags guest vcpu b
-  unfolding getState
+  get-as : decide s b (tests ++ bufferTests l s (getUse wide) b) (fillWith s (baseOf l s wide guest vcpu) b) ≡ getElements small s flags guest vcpu b
+  unfolding getElements
   get-as =
-      ap (λ (t : Bool). decide s b (targetTests l s bit0 flags t guest vcpu ++ bufferTests l s (getUse t) b) (fillWith s (baseOf l s t guest vcpu) b)) w
-      ∙ ap (λ (m : Layout). getState m s flags guest vcpu b) e
+      ap (λ (t : Bool). decide s b (targetTests l s (supportedBits t) flags t guest vcpu ++ bufferTests l s (getUse t) b) (fillWith s (baseOf l s t guest vcpu) b)) w
+      ∙ ap (λ (k : Layout). getElements k s flags guest vcpu b) e
 
-  pub set-turned : (f : Fault) → a ≡ TargetRefused f → r ≡ refusal f → _≡_ {A = Outcome} (record { answer = r; store = s; buffer = [] }) (setState small s flags guest vcpu b)
+  pub set-turned : (f : Fault) → a ≡ TargetRefused f → r ≡ refusal f → _≡_ {A = Outcome} (record { answer = r; store = s; buffer = [] }) (setElements small s flags guest vcpu b)
   unfolding decide
   set-turned f h i =
       ap (λ (x : Answer). record { answer = x; store = s; buffer = [] }) i
-      ∙ sym (begin-refused (refuse s []) (accept 0 (applied (baseOf l s wide guest vcpu) b (countOf b) s)) tests (bufferTests l s (setUse wide) b) f (target-judged l s bit0 flags wide guest vcpu a q f h))
+      ∙ sym (begin-refused (refuse s []) (accept 0 (applied (baseOf l s wide guest vcpu) b (countOf b) s)) tests (bufferTests l s (setUse wide) b) f (target-judged l s (supportedBits wide) flags wide guest vcpu a at f h))
       ∙ set-as
 
   pub set-found : (base : ℕ) (u : List ℕ) (usage : Usage) → a ≡ At base → usage ≡ setUse wide → _≡_ {A = Outcome} (record { answer = r; store = u; buffer = [] }) (setAt l s base usage b)
-      → _≡_ {A = Outcome} (record { answer = r; store = u; buffer = [] }) (setState small s flags guest vcpu b)
+      → _≡_ {A = Outcome} (record { answer = r; store = u; buffer = [] }) (setElements small s flags guest vcpu b)
   unfolding setAt decide
   set-found base u usage h v i =
-      let p = target-found l s bit0 flags wide guest vcpu a q base h in
+      let p = target-found l s (supportedBits wide) flags wide guest vcpu a at base h in
       i ∙ ap₂ (λ (x : ℕ) (y : Usage). firstOf (refuse s []) (bufferTests l s y b) (accept 0 (applied x b (countOf b) s))) (sym (p .1)) v
       ∙ sym (begin-admitted (refuse s []) (accept 0 (applied (baseOf l s wide guest vcpu) b (countOf b) s)) tests (bufferTests l s (setUse wide) b) (p .0)) ∙ set-as
 
-  pub get-turned : (f : Fault) → a ≡ TargetRefused f → r ≡ refusal f → _≡_ {A = Outcome} (record { answer = r; store = s; buffer = b }) (getState small s flags guest vcpu b)
+  pub get-turned : (f : Fault) → a ≡ TargetRefused f → r ≡ refusal f → _≡_ {A = Outcome} (record { answer = r; store = s; buffer = b }) (getElements small s flags guest vcpu b)
   unfolding decide
   get-turned f h i =
       ap (λ (x : Answer). record { answer = x; store = s; buffer = b }) i
-      ∙ sym (begin-refused (refuse s b) (fillWith s (baseOf l s wide guest vcpu) b) tests (bufferTests l s (getUse wide) b) f (target-judged l s bit0 flags wide guest vcpu a q f h)) ∙ get-as
+      ∙ sym (begin-refused (refuse s b) (fillWith s (baseOf l s wide guest vcpu) b) tests (bufferTests l s (getUse wide) b) f (target-judged l s (supportedBits wide) flags wide guest vcpu a at f h)) ∙ get-as
 
   pub get-found : (base : ℕ) (u : List ℕ) (usage : Usage) → a ≡ At base → usage ≡ getUse wide → _≡_ {A = Outcome} (record { answer = r; store = s; buffer = u }) (getAt l s base usage b)
-      → _≡_ {A = Outcome} (record { answer = r; store = s; buffer = u }) (getState small s flags guest vcpu b)
+      → _≡_ {A = Outcome} (record { answer = r; store = s; buffer = u }) (getElements small s flags guest vcpu b)
   unfolding getAt decide
   get-found base u usage h v i =
-      let p = target-found l s bit0 flags wide guest vcpu a q base h in
+      let p = target-found l s (supportedBits wide) flags wide guest vcpu a at base h in
       i ∙ ap₂ (λ (x : ℕ) (y : Usage). firstOf (refuse s b) (bufferTests l s y b) (fillWith s x b)) (sym (p .1)) v
       ∙ sym (begin-admitted (refuse s b) (fillWith s (baseOf l s wide guest vcpu) b) tests (bufferTests l s (getUse wide) b) (p .0)) ∙ get-as

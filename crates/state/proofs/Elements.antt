@@ -42,6 +42,7 @@ use Rattle.state.specs.State.{contextOf, gotElement}
 use Rattle.state.specs.Private.{bufferGood}
 use Rattle.admission.proofs.Targets.{held-vcpu}
 use Rattle.state.proofs.Buffers.{buffer-done, get-done, get-turned, get-found}
+use Rattle.state.proofs.HandOvers.{get-plain}
 
 -- ---- an ID that a thread get permits, not the NOP
 any-capabilities : (u : Usage) (c id : ℕ) (kind : Kind) → permits (record { usage = u; capabilities = 0 }) id kind ≡ permits (record { usage = u; capabilities = c }) id kind
@@ -121,9 +122,9 @@ module _ (id : ℕ) (p : permits (record { usage = ThreadGet; capabilities = 0 }
         let c : goodValue k id buffer 8 ≡ true = value-get k id buffer 8 (ap isSetting u) in
         one-element k id v (fit .0) (fit .1) ∙ simp (a, b, c)
 
-    module _ (l : Layout) (e : l ≡ small) (s : List ℕ) (guest vcpu : ℕ) (a : Target) (q : a ≡ targetOf l s (2 ^ 63) 0 false guest vcpu) (r : Answer) where
+    module _ (l : Layout) (e : l ≡ small) (s : List ℕ) (guest vcpu : ℕ) (a : Target) (q : a ≡ targetOf l s (2 ^ 62) 0 false guest vcpu) (r : Answer) where
       turned : (f : Fault) → a ≡ TargetRefused f → r ≡ refusal f → _≡_ {A = Outcome} (record { answer = r; store = s; buffer = buffer }) (gotElement s guest vcpu id v)
-      turned f h i = get-turned l e s 0 false refl guest vcpu buffer a q r f h i
+      turned f h i = get-turned l e s 0 false refl guest vcpu buffer a (2 ^ 62) refl q r f h i ∙ get-plain small s 0 guest vcpu buffer refl
 
       pub one-turned : (f : Fault) → a ≡ TargetRefused f → r ≡ refusal f → r ≡ gotElement s guest vcpu id v .answer
       one-turned f h i = ap (λ (o : Outcome). o .answer) (turned f h i)
@@ -141,8 +142,9 @@ module _ (id : ℕ) (p : permits (record { usage = ThreadGet; capabilities = 0 }
 
         found : _≡_ {A = Outcome} (record { answer = r; store = s; buffer = filled base s buffer (countOf buffer) }) (gotElement s guest vcpu id v)
         found =
-            get-found l e s 0 false refl guest vcpu buffer a q r base (filled base s buffer (countOf buffer)) ThreadGet h refl
+            get-found l e s 0 false refl guest vcpu buffer a (2 ^ 62) refl q r base (filled base s buffer (countOf buffer)) ThreadGet h refl
             (get-done l s ThreadGet buffer (bufferGood l s ThreadGet buffer) refl base r (filled base s buffer (countOf buffer)) admitted refl i)
+            ∙ get-plain small s 0 guest vcpu buffer refl
 
         pub one-found : r ≡ gotElement s guest vcpu id v .answer
         one-found = ap (λ (o : Outcome). o .answer) found

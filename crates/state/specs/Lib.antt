@@ -1,2 +1,3 @@
+pub mod HandOver
 pub mod State
 pub mod Private

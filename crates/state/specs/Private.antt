@@ -9,6 +9,8 @@ use Rattle.store.specs.Layout.{guestBytes, slotBytes}
 use Rattle.transfer.specs.Transfer.{applied}
 use Rattle.admission.specs.declared.Admission.{Admission}
 use Rattle.admission.specs.Refusals.{Outcome, accept, decide, judgement}
+use Rattle.store.specs.Header.{header, isTaken}
+use Rattle.state.specs.HandOver.{takeTests, takeFrom, giveTests, giveTo}
 use Rattle.state.specs.State.{bufferTests, fillWith}
 
 unfoldable pub bufferGood : Layout → List ℕ → Usage → List ℕ → Admission
@@ -28,3 +30,10 @@ bytesFor ThreadGet = slotBytes
 bytesFor ThreadSet = slotBytes
 bytesFor RunInput = slotBytes
 bytesFor Effect = slotBytes
+
+-- a hand-over past the slot
+unfoldable pub takeAt : Layout → List ℕ → ℕ → ℕ → List ℕ → Outcome
+takeAt l s j vcpu b = decide s b (takeTests (isTaken l (header l s) j) b) (takeFrom l s j vcpu b)
+
+unfoldable pub giveAt : Layout → List ℕ → ℕ → ℕ → List ℕ → Outcome
+giveAt l s j vcpu b = decide s [] (giveTests (isTaken l (header l s) j) vcpu b) (giveTo l s j b)

@@ -1,4 +1,5 @@
--- 01, "Answers", "The guest state buffer": get state and set state. "get and set state 1, 2, 3, 4, 5, then the elements".
+-- 01, "Answers", "The guest state buffer": get state and set state. "get and set state 1, 2, 3, 4, 5, then the elements"; 02, L1's 16 is right
+-- behind 4. What they do with bit 1 is in HandOver.
 use Prim.Native.Nat.{ℕ}
 use mathlib.Core.Bool.{Bool, true, false, cond}
 use mathlib.Core.List.{List, [], _∷_, _++_}
@@ -15,8 +16,9 @@ use Rattle.store.specs.declared.Layout.{Layout}
 use Rattle.store.specs.Layout.{small}
 use Rattle.store.specs.Header.{header, capabilitiesOf}
 use Rattle.transfer.specs.Transfer.{applied, filled}
-use Rattle.admission.specs.Refusals.{Outcome, success, accept, decide, bit0, hasBit0}
+use Rattle.admission.specs.Refusals.{Outcome, success, accept, decide, bit0, hasBit0, bit1, handsOver}
 use Rattle.admission.specs.Target.{targetTests, baseOf}
+use Rattle.state.specs.HandOver.{takeVcpu, giveVcpu}
 
 -- the use of the buffer, and the capabilities agreed at the call
 abbrev pub contextOf : Layout → List ℕ → Usage → Context
@@ -45,22 +47,32 @@ setUse wide = cond wide GuestSet ThreadSet
 abbrev pub getUse : Bool → Usage
 getUse wide = cond wide GuestGet ThreadGet
 
--- H_GUEST_SET_STATE: the whole buffer is judged, then its values are stored
-unfoldable pub setState : Layout → List ℕ → ℕ → ℕ → ℕ → List ℕ → Outcome
-setState l s flags guest vcpu b =
+-- 02, L1: "Both bits together are answer 2 with R4 1": bit 1 is supported where bit 0 is not set
+abbrev pub supportedBits : Bool → ℕ
+supportedBits wide = cond wide bit0 bit1
+
+-- H_GUEST_SET_STATE of elements: the whole buffer is judged, then its values are stored
+unfoldable pub setElements : Layout → List ℕ → ℕ → ℕ → ℕ → List ℕ → Outcome
+setElements l s flags guest vcpu b =
     decide s []
-    (targetTests l s bit0 flags (hasBit0 flags) guest vcpu ++ bufferTests l s (setUse (hasBit0 flags)) b)
+    (targetTests l s (supportedBits (hasBit0 flags)) flags (hasBit0 flags) guest vcpu ++ bufferTests l s (setUse (hasBit0 flags)) b)
     (accept 0 (applied (baseOf l s (hasBit0 flags) guest vcpu) b (countOf b) s))
 
--- H_GUEST_GET_STATE: the whole buffer is judged, then its values are filled in
+unfoldable pub setState : Layout → List ℕ → ℕ → ℕ → ℕ → List ℕ → Outcome
+setState l s flags guest vcpu b = cond (handsOver flags) (giveVcpu l s guest vcpu b) (setElements l s flags guest vcpu b)
+
+-- H_GUEST_GET_STATE of elements: the whole buffer is judged, then its values are filled in
 abbrev pub fillWith : List ℕ → ℕ → List ℕ → Outcome
 fillWith s base b = record { answer = success 0; store = s; buffer = filled base s b (countOf b) }
 
-unfoldable pub getState : Layout → List ℕ → ℕ → ℕ → ℕ → List ℕ → Outcome
-getState l s flags guest vcpu b =
+unfoldable pub getElements : Layout → List ℕ → ℕ → ℕ → ℕ → List ℕ → Outcome
+getElements l s flags guest vcpu b =
     decide s b
-    (targetTests l s bit0 flags (hasBit0 flags) guest vcpu ++ bufferTests l s (getUse (hasBit0 flags)) b)
+    (targetTests l s (supportedBits (hasBit0 flags)) flags (hasBit0 flags) guest vcpu ++ bufferTests l s (getUse (hasBit0 flags)) b)
     (fillWith s (baseOf l s (hasBit0 flags) guest vcpu) b)
+
+unfoldable pub getState : Layout → List ℕ → ℕ → ℕ → ℕ → List ℕ → Outcome
+getState l s flags guest vcpu b = cond (handsOver flags) (takeVcpu l s guest vcpu b) (getElements l s flags guest vcpu b)
 
 -- of one thread element, in a buffer that holds it alone: what the L1 cache reads
 abbrev pub gotElement : List ℕ → ℕ → ℕ → ℕ → List ℕ → Outcome

@@ -1,5 +1,6 @@
-// Get state and set state. The whole buffer is judged before a byte of the store or of the buffer changes. `single` gets one element;
-// what it means is defined here.
+// Get state and set state. The whole buffer is judged before a byte of the store or of the buffer changes. `hand_over` is what both do
+// with bit 1, `single` gets one element; what they mean is defined here.
+mod hand_over;
 mod single;
 
 use admission::Admission;
@@ -12,6 +13,8 @@ use answer::success;
 use gsb::Walked;
 use gsb::bad_length;
 use gsb::first_bad;
+use hand_over::give_vcpu;
+use hand_over::take_vcpu;
 use rules::Context;
 use rules::Usage;
 pub use single::get_element;
@@ -27,11 +30,14 @@ ghost use lib.ListN.{length};
 ghost use Rattle.rules.specs.declared.Usage.the-variants.{ThreadGet};
 ghost use Rattle.store.specs.Layout.{Sound, small};
 ghost use Rattle.admission.specs.Refusals.{Outcome, hasBit0};
-ghost use Rattle.state.specs.State.{setUse, setState, getUse, getState};
+ghost use Rattle.state.specs.State.{supportedBits, setUse, setElements, setState, getUse, getElements, getState};
 ghost use Rattle.state.specs.Private.{bufferGood, setAt, getAt, bytesFor};
 
 // Guest-wide.
 const BIT_0: u64 = 0x8000_0000_0000_0000;
+
+// A vCPU is handed over.
+const BIT_1: u64 = 0x4000_0000_0000_0000;
 
 // 5, then the elements.
 fn judge_buffer(store: &[u8], l: Layout, usage: Usage, buffer: &[u8]) -> Admission
@@ -58,6 +64,16 @@ fn is_wide(flags: u64) -> bool
     flags / 0x8000_0000_0000_0000 == 1
 }
 
+// Bit 1 is supported without bit 0 only.
+fn supported_bits(wide: bool) -> u64
+    ensures { λ r. ⌜ r ≡ supportedBits wide ⌝ }
+{
+    if wide {
+        return BIT_0;
+    }
+    BIT_1
+}
+
 fn set_use(wide: bool) -> Usage
     ensures { λ r. ⌜ r ≡ setUse wide ⌝ }
 {
@@ -79,17 +95,27 @@ fn set_at(store: &mut [u8], l: Layout, base: usize, usage: Usage, buffer: &[u8])
     success(0)
 }
 
-// H_GUEST_SET_STATE.
-pub fn set_state(store: &mut [u8], flags: u64, guest: u64, vcpu: u64, buffer: &[u8]) -> Answer
-    ensures { λ r. ⌜ _≡_ {A = Outcome} (record { answer = r; store = now (store .exit); buffer = [] }) (setState small (now (store .entry)) flags guest vcpu (now (buffer .entry))) ⌝ }
+fn set_elements(store: &mut [u8], flags: u64, guest: u64, vcpu: u64, buffer: &[u8]) -> Answer
+    ensures { λ r. ⌜ _≡_ {A = Outcome} (record { answer = r; store = now (store .exit); buffer = [] }) (setElements small (now (store .entry)) flags guest vcpu (now (buffer .entry))) ⌝ }
 {
     let l = small_layout();
     let wide = is_wide(flags);
-    let target = small_target(store, l, BIT_0, flags, wide, guest as usize, vcpu as usize);
+    let bits = supported_bits(wide);
+    let target = small_target(store, l, bits, flags, wide, guest as usize, vcpu as usize);
     match target {
         Target::Refused(fault) => refusal(fault),
         Target::At(base) => set_at(store, l, base, set_use(wide), buffer),
     }
+}
+
+// H_GUEST_SET_STATE.
+pub fn set_state(store: &mut [u8], flags: u64, guest: u64, vcpu: u64, buffer: &[u8]) -> Answer
+    ensures { λ r. ⌜ _≡_ {A = Outcome} (record { answer = r; store = now (store .exit); buffer = [] }) (setState small (now (store .entry)) flags guest vcpu (now (buffer .entry))) ⌝ }
+{
+    if flags == BIT_1 {
+        return give_vcpu(store, guest, vcpu, buffer);
+    }
+    set_elements(store, flags, guest, vcpu, buffer)
 }
 
 fn get_use(wide: bool) -> Usage
@@ -113,15 +139,25 @@ fn get_at(store: &[u8], l: Layout, base: usize, usage: Usage, buffer: &mut [u8])
     success(0)
 }
 
-// H_GUEST_GET_STATE.
-pub fn get_state(store: &[u8], flags: u64, guest: u64, vcpu: u64, buffer: &mut [u8]) -> Answer
-    ensures { λ r. ⌜ _≡_ {A = Outcome} (record { answer = r; store = now (store .entry); buffer = now (buffer .exit) }) (getState small (now (store .entry)) flags guest vcpu (now (buffer .entry))) ⌝ }
+fn get_elements(store: &[u8], flags: u64, guest: u64, vcpu: u64, buffer: &mut [u8]) -> Answer
+    ensures { λ r. ⌜ _≡_ {A = Outcome} (record { answer = r; store = now (store .entry); buffer = now (buffer .exit) }) (getElements small (now (store .entry)) flags guest vcpu (now (buffer .entry))) ⌝ }
 {
     let l = small_layout();
     let wide = is_wide(flags);
-    let target = small_target(store, l, BIT_0, flags, wide, guest as usize, vcpu as usize);
+    let bits = supported_bits(wide);
+    let target = small_target(store, l, bits, flags, wide, guest as usize, vcpu as usize);
     match target {
         Target::Refused(fault) => refusal(fault),
         Target::At(base) => get_at(store, l, base, get_use(wide), buffer),
     }
+}
+
+// H_GUEST_GET_STATE. It writes the store where a vCPU is taken.
+pub fn get_state(store: &mut [u8], flags: u64, guest: u64, vcpu: u64, buffer: &mut [u8]) -> Answer
+    ensures { λ r. ⌜ _≡_ {A = Outcome} (record { answer = r; store = now (store .exit); buffer = now (buffer .exit) }) (getState small (now (store .entry)) flags guest vcpu (now (buffer .entry))) ⌝ }
+{
+    if flags == BIT_1 {
+        return take_vcpu(store, guest, vcpu, buffer);
+    }
+    get_elements(store, flags, guest, vcpu, buffer)
 }

@@ -18,8 +18,8 @@ ghost use Rattle.elements.specs.Table.{kindOf, numberOf, threadElement};
 ghost use Rattle.rules.specs.Rules.{permits};
 ghost use Rattle.state.specs.State.{gotElement};
 
-// The flag that get state supports.
-const BIT_0: u64 = 0x8000_0000_0000_0000;
+// The flag that get state of a vCPU supports.
+const BIT_1: u64 = 0x4000_0000_0000_0000;
 
 // H_GUEST_GET_STATE with a buffer of one element, for the L1 cache: the value comes straight from the slot.
 pub fn get_element(store: &[u8], guest: u64, vcpu: u64, id: u16, value: &mut [u8]) -> Answer
@@ -28,7 +28,7 @@ pub fn get_element(store: &[u8], guest: u64, vcpu: u64, id: u16, value: &mut [u8
     ensures { λ r. ⌜ now (value .exit) ≡ bytesAt (gotElement (now (store .entry)) guest vcpu id (now (value .entry)) .buffer) 8 (length (now (value .entry))) ⌝ }
 {
     let l = small_layout();
-    let target = target_of(store, l, BIT_0, 0, false, guest as usize, vcpu as usize);
+    let target = target_of(store, l, BIT_1, 0, false, guest as usize, vcpu as usize);
     match target {
         Target::Refused(fault) => refusal(fault),
         Target::At(base) => {

@@ -1,16 +1,16 @@
 -- No two used words are the same exactly if each stands once: the code counts. Assumes nothing.
 use mathlib.Core.Path.{_≡_, refl, sym, ap, _∙_}
 use mathlib.Core.Logic.{_≢_}
-use mathlib.Core.Bool.{Bool, true, false, _&&_, cond}
+use mathlib.Core.Bool.{Bool, true, false, not, _&&_, cond}
 use mathlib.Core.List.{List}
 use Prim.Native.Nat.{ℕ, _*_, _≤_, _<_}
 use native.Mathlib.Omega.{arith}
 use native.Mathlib.Decide.{ℕ-discrete, decLt}
 use lib.Dec.{eqb, leb}
-use borrow.Author.Tests.{eq-eqb, ne-eqb, le-leb, leb-true, eqb-true}
+use borrow.Author.Tests.{eq-eqb, ne-eqb, le-leb, leb-true, eqb-true, not-true}
 use Rattle.store.specs.declared.Layout.{Layout}
 use Rattle.store.specs.Search.{every}
-use Rattle.store.specs.Header.{live, word, isUsed, guestOf, holds, wordsGood}
+use Rattle.store.specs.Header.{live, word, isUsed, guestOf, isTaken, holds, wordsGood}
 use Rattle.store.specs.Private.{timesOf, slotCounted}
 use Rattle.store.proofs.Search.{both, every-all, every-at, tally-one, tally-two}
 use Rattle.store.proofs.Kept.{Words, words-are, words-good}
@@ -35,19 +35,25 @@ module _ (l : Layout) (h : List ℕ) where
   counted-of f = every-all (slotCounted l h) (l .slots) 0 (λ a i k. at a (omega arith) (ℕ-discrete (word l h a) 0))
     where
       at : (a : ℕ) → a < l .slots → Dec (word l h a ≡ 0) → slotCounted l h a ≡ true
-      at a k (yes z) = simp (eq-eqb _ _ z)
+      at a k (yes z) = simp (eq-eqb _ _ z, f .idle a k z)
       at a k (no n) = simp (ne-eqb _ _ n, le-leb _ _ (f .good a k n .0), f .good a k n .1) (eq-eqb _ _ (once f a k n))
 
   of-counted : every (slotCounted l h) (l .slots) 0 ≡ true → Words l h
   unfolding slotCounted isUsed holds
-  of-counted t = record { good = λ a k n. at a k n .0; sole = λ a b k m n e. twice a b k m e (at a k n .1) }
+  of-counted t = record { good = λ a k n. at a k n .0; sole = λ a b k m n e. twice a b k m e (at a k n .1); idle = idle }
     where
+      idle : (a : ℕ) → a < l .slots → word l h a ≡ 0 → isTaken l h a ≡ false
+      idle a k z =
+          let w = word l h a in
+          not-true _ (ap (λ (b : Bool). cond b (not (isTaken l h a)) (leb (l .ids * 2048) w && (live l h (guestOf l w) && eqb (timesOf l h w) 1))) (sym (eq-eqb _ _ z))
+          ∙ every-at (slotCounted l h) (l .slots) 0 t a (omega arith) (omega arith))
+
       at : (a : ℕ) → a < l .slots → word l h a ≢ 0
           → ((l .ids * 2048 ≤ word l h a) × (live l h (guestOf l (word l h a)) ≡ true)) × (timesOf l h (word l h a) ≡ 1)
       at a k n =
           let w = word l h a in
           let q : (leb (l .ids * 2048) w && (live l h (guestOf l w) && eqb (timesOf l h w) 1)) ≡ true =
-          ap (λ (b : Bool). cond b true (leb (l .ids * 2048) w && (live l h (guestOf l w) && eqb (timesOf l h w) 1))) (sym (ne-eqb _ _ n))
+          ap (λ (b : Bool). cond b (not (isTaken l h a)) (leb (l .ids * 2048) w && (live l h (guestOf l w) && eqb (timesOf l h w) 1))) (sym (ne-eqb _ _ n))
           ∙ every-at (slotCounted l h) (l .slots) 0 t a (omega arith) (omega arith) in
           let u = both (leb (l .ids * 2048) w) (live l h (guestOf l w) && eqb (timesOf l h w) 1) q in
           let v = both (live l h (guestOf l w)) (eqb (timesOf l h w) 1) (u .1) in

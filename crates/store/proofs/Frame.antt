@@ -1,8 +1,8 @@
 -- The header of a store after each write: a field is written in the header too, a value leaves it as it was. Assumes nothing.
-use mathlib.Core.Path.{_≡_}
+use mathlib.Core.Path.{_≡_, ap, _∙_}
 use mathlib.Core.Bool.{true, _&&_}
 use mathlib.Core.List.{List}
-use Prim.Native.Nat.{ℕ, _+_, _≤_, _<_}
+use Prim.Native.Nat.{ℕ, _+_, _*_, _≤_, _<_}
 use native.Mathlib.Omega.{arith}
 use lib.Dec.{eqb}
 use lib.ListN.{length}
@@ -13,8 +13,8 @@ use Rattle.octets.proofs.Numbers.{length-digits}
 use Rattle.octets.proofs.Bits.{front-putBits}
 use Rattle.store.specs.declared.Layout.{Layout}
 use Rattle.store.specs.Layout.{Sound}
-use Rattle.store.specs.Header.{header, wordAt, headGood, wordsGood}
-use Rattle.store.specs.Store.{wellFormed, putCapabilities, putLive, putWord}
+use Rattle.store.specs.Header.{header, wordAt, isTaken, headGood, wordsGood}
+use Rattle.store.specs.Store.{wellFormed, putCapabilities, putLive, putWord, putTaken, putSlot}
 use Rattle.store.proofs.Search.{both}
 use Rattle.store.proofs.Readings.{step}
 
@@ -39,6 +39,18 @@ module _ (l : Layout) (so : Sound l) (s : List ℕ) where
   pub header-live : (g b : ℕ) → g ≤ l .guests → header l (putLive s g b) ≡ putLive (header l s) g b
   unfolding header putLive
   header-live g b k = front-putBits s (l .«guests_at») (63 + g) 1 b (omega (arith, so .head, so .words))
+
+  pub header-mark : (j b : ℕ) → j < l .slots → header l (putTaken l s j b) ≡ putTaken l (header l s) j b
+  unfolding header putTaken
+  header-mark j b k = front-putBits s (l .«guests_at») (8 * l .«taken_at» + j) 1 b (omega (arith, so .marks))
+
+  -- a write into values leaves the marks
+  pub taken-values : (p : ℕ) (v : List ℕ) (a : ℕ) → l .«guests_at» ≤ p → isTaken l (header l (put s p v)) a ≡ isTaken l (header l s) a
+  taken-values p v a k = ap (λ (h : List ℕ). isTaken l h a) (header-values p v k)
+
+pub header-slot : (l : Layout) → Sound l → (s : List ℕ) (j w : ℕ) → j < l .slots → header l (putSlot l s j w) ≡ putSlot l (header l s) j w
+unfolding putSlot
+header-slot l so s j w k = header-word l so (putTaken l s j 0) j w k ∙ ap (λ (h : List ℕ). putWord l h j w) (header-mark l so s j 0 k)
 
 -- ---- a well-formed store, taken apart and put together
 pub record Formed (l : Layout) (s : List ℕ) : Type 0 where

@@ -10,7 +10,7 @@ use native.Mathlib.Decide.{ℕ-discrete}
 use lib.Bits.{and-mod}
 use lib.Dec.{eqb, leb}
 use lib.ListN.{length}
-use borrow.Author.Tests.{eq-eqb, ne-eqb, le-leb, lt-ltb, leb-true, eqb-true, eqb-false}
+use borrow.Author.Tests.{eq-eqb, ne-eqb, le-leb, lt-ltb, leb-true, eqb-true, eqb-false, not-true}
 use Rattle.octets.specs.Bytes.{digits, zeros, left}
 use Rattle.octets.specs.Bits.{bit, bits}
 use Rattle.octets.proofs.Bytes.{length-put}
@@ -19,29 +19,37 @@ use Rattle.octets.proofs.Bits.{length-putBits, bits-beside, bits-one}
 use Rattle.store.specs.declared.Layout.{Layout}
 use Rattle.store.specs.Layout.{Sound, guestBytes, slotBytes, guestAt, slotAt}
 use Rattle.store.specs.Search.{first}
-use Rattle.store.specs.Header.{header, outside, offered, capabilitiesOf, live, wordAt, word, wordOf, isUsed, guestOf, holds, lacks, alone, slotGood, headGood, wordsGood, slotHolding, slotOf, freeSlot}
-use Rattle.store.specs.Store.{wellFormed, putCapabilities, putLive, putWord, withGuest, withVcpu, dropWord, dropWords, withoutGuest, noWords, noGuests, withoutGuests}
+use Rattle.store.specs.Header.{header, outside, offered, capabilitiesOf, live, wordAt, word, wordOf, isUsed, guestOf, isTaken, holds, lacks, alone, slotGood, headGood, wordsGood, slotHolding, slotOf, freeSlot}
+use Rattle.store.specs.Store.{wellFormed, putCapabilities, putLive, putWord, putTaken, putSlot, withGuest, withVcpu, dropWord, dropWords, withoutGuest, noWords, noGuests, withoutGuests}
 use Rattle.store.proofs.Search.{no-bool, both, every-all, every-at, first-none}
 use Rattle.store.proofs.Tests.{live-parts}
-use Rattle.store.proofs.WordFields.{word-same, word-other, live-same, head-same, word-live, head-live, live-here, live-else}
-use Rattle.store.proofs.Frame.{header-full, header-caps, header-word, header-live, Formed, formed, well-formed, formed-values}
+use Rattle.store.proofs.WordFields.{word-same, word-other, live-same, taken-same, word-live, taken-live, head-live, live-here, live-else}
+use Rattle.store.proofs.Marks.{length-mark, word-mark, live-mark, head-mark, taken-here, taken-else, word-slot, word-slot-else, live-slot, head-slot, taken-slot, taken-slot-else}
+use Rattle.store.proofs.Frame.{header-full, header-values, header-caps, header-live, header-mark, header-slot, Formed, formed, well-formed, formed-values}
+use Rattle.store.proofs.Beside.{mark-long, slot-long}
 
 -- ---- the words as facts
 pub record Words (l : Layout) (h : List ℕ) : Type 0 where
   pub good : (a : ℕ) → a < l .slots → word l h a ≢ 0 → (l .ids * 2048 ≤ word l h a) × (live l h (guestOf l (word l h a)) ≡ true)
   pub sole : (a b : ℕ) → a < l .slots → b < a → word l h a ≢ 0 → word l h b ≢ word l h a
+  pub idle : (a : ℕ) → a < l .slots → word l h a ≡ 0 → isTaken l h a ≡ false
 
 not-eqb : (x y : ℕ) → not (eqb x y) ≡ true → x ≢ y
 not-eqb x y h e = no-bool (sym (ap not (eq-eqb x y e)) ∙ h)
 
 pub words-are : (l : Layout) (h : List ℕ) → wordsGood l h ≡ true → Words l h
 unfolding wordsGood slotGood isUsed alone lacks
-words-are l h t = record { good = λ a k n. at a k n .0; sole = λ a b k m n. at a k n .1 b m }
+words-are l h t = record { good = λ a k n. at a k n .0; sole = λ a b k m n. at a k n .1 b m; idle = idle }
   where
+    idle : (a : ℕ) → a < l .slots → word l h a ≡ 0 → isTaken l h a ≡ false
+    idle a k z =
+        not-true _ (ap (λ (b : Bool). cond b (not (isTaken l h a)) (leb (l .ids * 2048) (word l h a) && (live l h (guestOf l (word l h a)) && alone l h (word l h a) a))) (sym (eq-eqb _ _ z))
+        ∙ every-at (slotGood l h) (l .slots) 0 t a (omega arith) (omega arith))
+
     at : (a : ℕ) → a < l .slots → word l h a ≢ 0 → ((l .ids * 2048 ≤ word l h a) × (live l h (guestOf l (word l h a)) ≡ true)) × ((b : ℕ) → b < a → word l h b ≢ word l h a)
     at a k n =
         let q : (leb (l .ids * 2048) (word l h a) && (live l h (guestOf l (word l h a)) && alone l h (word l h a) a)) ≡ true =
-        ap (λ (b : Bool). cond b true (leb (l .ids * 2048) (word l h a) && (live l h (guestOf l (word l h a)) && alone l h (word l h a) a))) (sym (ne-eqb _ _ n))
+        ap (λ (b : Bool). cond b (not (isTaken l h a)) (leb (l .ids * 2048) (word l h a) && (live l h (guestOf l (word l h a)) && alone l h (word l h a) a))) (sym (ne-eqb _ _ n))
         ∙ every-at (slotGood l h) (l .slots) 0 t a (omega arith) (omega arith) in
         let u = both (leb (l .ids * 2048) (word l h a)) (live l h (guestOf l (word l h a)) && alone l h (word l h a) a) q in
         let v = both (live l h (guestOf l (word l h a))) (alone l h (word l h a) a) (u .1) in
@@ -52,15 +60,16 @@ unfolding wordsGood slotGood isUsed alone lacks
 words-good l h f = every-all (slotGood l h) (l .slots) 0 (λ a i k. at a (omega arith) (ℕ-discrete (word l h a) 0))
   where
     at : (a : ℕ) → a < l .slots → Dec (word l h a ≡ 0) → slotGood l h a ≡ true
-    at a k (yes z) = simp (eq-eqb _ _ z)
+    at a k (yes z) = simp (eq-eqb _ _ z, f .idle a k z)
     at a k (no n) =
         simp (ne-eqb _ _ n, le-leb _ _ (f .good a k n .0), f .good a k n .1)
         (every-all (lacks l h (word l h a)) a 0 (λ b i m. ap not (ne-eqb _ _ (f .sole a b k (omega arith) n))))
 
--- a word that is zero, or good and in no other slot, may be written
+-- a word that is zero, of a slot with no mark, or good and in no other slot, may be written
 module _ (l : Layout) (so : Sound l) (h : List ℕ) (full : length h ≡ l .«guests_at») (j : ℕ) (hj : j < l .slots) (w : ℕ) (hw : w < 4096 * l .ids) where
-  pub words-put : Words l h → (w ≢ 0 → (l .ids * 2048 ≤ w) × (live l h (guestOf l w) ≡ true)) → (w ≢ 0 → (a : ℕ) → a < l .slots → a ≢ j → word l h a ≢ w) → Words l (putWord l h j w)
-  words-put f g u = record { good = λ a la. goods a la (ℕ-discrete a j); sole = λ a b la m. soles a b la m (ℕ-discrete a j) (ℕ-discrete b j) }
+  pub words-put : Words l h → (w ≢ 0 → (l .ids * 2048 ≤ w) × (live l h (guestOf l w) ≡ true)) → (w ≢ 0 → (a : ℕ) → a < l .slots → a ≢ j → word l h a ≢ w)
+      → (w ≡ 0 → isTaken l h j ≡ false) → Words l (putWord l h j w)
+  words-put f g u i = record { idle = λ a la z. taken-same l so h full j hj w a la ∙ idles a la (ℕ-discrete a j) z; good = λ a la. goods a la (ℕ-discrete a j); sole = λ a b la m. soles a b la m (ℕ-discrete a j) (ℕ-discrete b j) }
     where
       t : List ℕ
       t = putWord l h j w
@@ -70,6 +79,10 @@ module _ (l : Layout) (so : Sound l) (h : List ℕ) (full : length h ≡ l .«gu
 
       other : (a : ℕ) → a ≢ j → word l t a ≡ word l h a
       other = word-other l so h full j hj w
+
+      idles : (a : ℕ) → a < l .slots → Dec (a ≡ j) → word l t a ≡ 0 → isTaken l h a ≡ false
+      idles a la (yes p) z = ap (isTaken l h) p ∙ i (sym same ∙ ap (word l t) (sym p) ∙ z)
+      idles a la (no m) z = f .idle a la (sym (other a m) ∙ z)
 
       good-at : (x y : ℕ) → x ≡ y → (l .ids * 2048 ≤ y) × (live l h (guestOf l y) ≡ true) → (l .ids * 2048 ≤ x) × (live l t (guestOf l x) ≡ true)
       good-at x y e p = (omega (arith, p .0, e), live-same l so h full j hj w (guestOf l x) ∙ ap (λ (z : ℕ). live l h (guestOf l z)) e ∙ p .1)
@@ -88,6 +101,35 @@ module _ (l : Layout) (so : Sound l) (h : List ℕ) (full : length h ≡ l .«gu
           u (λ z. n (sym e ∙ eb ∙ z)) a la k (sym (other a k) ∙ sym e ∙ eb)
       soles a b la m (no k) (no k′) n e = f .sole a b la m (λ z. n (other a k ∙ z)) (sym (other b k′) ∙ e ∙ other a k)
 
+-- a mark may be set on a used slot, and cleared on any
+module _ (l : Layout) (so : Sound l) (h : List ℕ) (full : length h ≡ l .«guests_at») (j : ℕ) (hj : j < l .slots) where
+  pub words-mark : (b : ℕ) → Words l h → (word l h j ≡ 0 → eqb (b % 2) 1 ≡ false) → Words l (putTaken l h j b)
+  words-mark b f i = record {
+    good = λ a la n. let e = same a la in let p = f .good a la (λ z. n (e ∙ z)) in
+        (omega (arith, p .0, e), live-mark l so h full j hj b (guestOf l (word l t a)) ∙ ap (λ (w : ℕ). live l h (guestOf l w)) e ∙ p .1);
+    sole = λ a c la m n q. f .sole a c la m (λ z. n (same a la ∙ z)) (sym (same c (omega arith)) ∙ q ∙ same a la);
+    idle = λ a la z. idles a la (ℕ-discrete a j) (sym (same a la) ∙ z);
+  }
+    where
+      t : List ℕ
+      t = putTaken l h j b
+
+      same : (a : ℕ) → a < l .slots → word l t a ≡ word l h a
+      same = word-mark l so h full j hj b
+
+      idles : (a : ℕ) → a < l .slots → Dec (a ≡ j) → word l h a ≡ 0 → isTaken l t a ≡ false
+      idles a la (yes p) z = ap (isTaken l t) p ∙ taken-here l so h full j hj b ∙ i (ap (word l h) (sym p) ∙ z)
+      idles a la (no m) z = taken-else l so h full j hj b a m ∙ f .idle a la z
+
+  -- so a word that is zero, or good and in no other slot, may be written where the mark is cleared
+  pub words-slot : (w : ℕ) → w < 4096 * l .ids → Words l h → (w ≢ 0 → (l .ids * 2048 ≤ w) × (live l h (guestOf l w) ≡ true))
+      → (w ≢ 0 → (a : ℕ) → a < l .slots → a ≢ j → word l h a ≢ w) → Words l (putSlot l h j w)
+  unfolding putSlot
+  words-slot w hw f g u =
+      words-put l so (putTaken l h j 0) (length-mark l so h full j hj 0 ∙ full) j hj w hw (words-mark 0 f (λ z. refl))
+      (λ n. (g n .0, live-mark l so h full j hj 0 (guestOf l w) ∙ g n .1))
+      (λ n a la m e. u n a la m (sym (word-mark l so h full j hj 0 a la) ∙ e)) (λ z. taken-here l so h full j hj 0)
+
 -- every used word still names a live guest, so a live bit may be written
 module _ (l : Layout) (so : Sound l) (h : List ℕ) (full : length h ≡ l .«guests_at») (g : ℕ) (lo : 1 ≤ g) (hi : g ≤ l .guests) (b : ℕ) where
   pub words-live : Words l h → ((a : ℕ) → a < l .slots → word l h a ≢ 0 → live l h (guestOf l (word l h a)) ≡ true → live l (putLive h g b) (guestOf l (word l h a)) ≡ true)
@@ -96,11 +138,8 @@ module _ (l : Layout) (so : Sound l) (h : List ℕ) (full : length h ≡ l .«gu
     good = λ a la n. let e = word-live l so h full g lo hi b a in let p = f .good a la (λ z. n (e ∙ z)) in
         (omega (arith, p .0, e), ap (λ (w : ℕ). live l (putLive h g b) (guestOf l w)) e ∙ k a la (λ z. n (e ∙ z)) (p .1));
     sole = λ a c la m n q. f .sole a c la m (λ z. n (word-live l so h full g lo hi b a ∙ z)) (sym (word-live l so h full g lo hi b c) ∙ q ∙ word-live l so h full g lo hi b a);
+    idle = λ a la z. taken-live l so h full g lo hi b a ∙ f .idle a la (sym (word-live l so h full g lo hi b a) ∙ z);
   }
-
-pub put-long : (l : Layout) (s : List ℕ) (j w : ℕ) → length (putWord l s j w) ≡ length s
-unfolding putWord
-put-long l s j w = length-putBits s (wordAt l j) (l .width) w
 
 pub live-long : (s : List ℕ) (g b : ℕ) → length (putLive s g b) ≡ length s
 unfolding putLive
@@ -119,6 +158,12 @@ module _ (l : Layout) (so : Sound l) (h : List ℕ) where
   pub caps-word : (c a : ℕ) → word l (putCapabilities h c) a ≡ word l h a
   unfolding word
   caps-word c a = caps-bits c (wordAt l a) (l .width) (omega (arith, so .head))
+
+  pub caps-taken : (c a : ℕ) → isTaken l (putCapabilities h c) a ≡ isTaken l h a
+  unfolding isTaken
+  caps-taken c a =
+      ap (λ (x : ℕ). eqb x 1)
+      (sym (bits-one (putCapabilities h c) (8 * l .«taken_at» + a)) ∙ caps-bits c (8 * l .«taken_at» + a) 1 (omega (arith, so .marks-head)) ∙ bits-one h (8 * l .«taken_at» + a))
 
   pub caps-live : (c g : ℕ) → live l (putCapabilities h c) g ≡ live l h g
   unfolding live
@@ -184,6 +229,7 @@ module _ (l : Layout) (so : Sound l) (s : List ℕ) (good : wellFormed l s ≡ t
             good = λ a la n. let p = g .good a la (λ z. n (w a ∙ z)) in
                 (omega (arith, p .0, w a), ap (λ (x : ℕ). live l (putCapabilities (header l s) c) (guestOf l x)) (w a) ∙ caps-live l so (header l s) c (guestOf l (word l (header l s) a)) ∙ p .1);
             sole = λ a b la m n q. g .sole a b la m (λ z. n (w a ∙ z)) (sym (w b) ∙ q ∙ w a);
+            idle = λ a la z. caps-taken l so (header l s) c a ∙ g .idle a la (sym (w a) ∙ z);
           }
 
   -- ---- create vCPU: a free slot for a live guest's vCPU that is not there yet
@@ -208,21 +254,21 @@ module _ (l : Layout) (so : Sound l) (s : List ℕ) (good : wellFormed l s ≡ t
 
     module _ (free : freeSlot l (header l s) < l .slots) (new : l .slots ≤ slotOf l (header l s) g v) where
       -- the word put into the free slot, before its values are zeroed
-      claimed : wellFormed l (putWord l s (freeSlot l (header l s)) (wordOf l g v)) ≡ true
+      claimed : wellFormed l (putSlot l s (freeSlot l (header l s)) (wordOf l g v)) ≡ true
       claimed =
           let j = freeSlot l (header l s) in
           let w = wordOf l g v in
-          let e = header-word l so s j w free in
-          well-formed l (putWord l s j w) (record {
-            long = put-long l s j w ∙ f .long;
-            head = ap (headGood l) e ∙ head-same l so (header l s) full j free w ∙ f .head;
-            words = ap (wordsGood l) e ∙ words-good l (putWord l (header l s) j w) (words-put l so (header l s) full j free w new-small (words-are l (header l s) (f .words))
+          let e = header-slot l so s j w free in
+          well-formed l (putSlot l s j w) (record {
+            long = slot-long l so s j w ∙ f .long;
+            head = ap (headGood l) e ∙ head-slot l so (header l s) full j free w ∙ f .head;
+            words = ap (wordsGood l) e ∙ words-good l (putSlot l (header l s) j w) (words-slot l so (header l s) full j free w new-small (words-are l (header l s) (f .words))
                 (λ n. (new-used, ap (live l (header l s)) new-guest ∙ lv)) (λ n a la m. absent new a la));
           })
 
       pub vcpu-kept : wellFormed l (withVcpu l s (freeSlot l (header l s)) g v) ≡ true
       unfolding withVcpu
-      vcpu-kept = formed-values l so (putWord l s (freeSlot l (header l s)) (wordOf l g v)) (slotAt l (freeSlot l (header l s))) (zeros slotBytes) (omega (arith, so .guests-fit)) ∙ claimed
+      vcpu-kept = formed-values l so (putSlot l s (freeSlot l (header l s)) (wordOf l g v)) (slotAt l (freeSlot l (header l s))) (zeros slotBytes) (omega (arith, so .guests-fit)) ∙ claimed
 
   -- ---- delete guest: t is s less the words of guest g below n
   pub record Less (g n : ℕ) (t : List ℕ) : Type 0 where
@@ -230,37 +276,40 @@ module _ (l : Layout) (so : Sound l) (s : List ℕ) (good : wellFormed l s ≡ t
     pub words : Words l (header l t)
     pub lives : (k : ℕ) → live l (header l t) k ≡ live l (header l s) k
     pub head : headGood l (header l t) ≡ headGood l (header l s)
-    pub later : (a : ℕ) → n ≤ a → word l (header l t) a ≡ word l (header l s) a
-    pub kept : (a : ℕ) → guestOf l (word l (header l s) a) ≢ g → word l (header l t) a ≡ word l (header l s) a
+    pub later : (a : ℕ) → a < l .slots → n ≤ a → word l (header l t) a ≡ word l (header l s) a
+    pub kept : (a : ℕ) → a < l .slots → guestOf l (word l (header l s) a) ≢ g → word l (header l t) a ≡ word l (header l s) a
     pub gone : (a : ℕ) → a < n → guestOf l (word l (header l s) a) ≡ g → word l (header l t) a ≡ 0
+    pub marks : (a : ℕ) → a < l .slots → guestOf l (word l (header l s) a) ≢ g → isTaken l (header l t) a ≡ isTaken l (header l s) a
 
   -- a word of t dropped: the header's words and bits after it
   module _ (g n : ℕ) (kn : n < l .slots) (t : List ℕ) (r : Less g n t) (here : guestOf l (word l (header l s) n) ≡ g) where
     t-full : length (header l t) ≡ l .«guests_at»
     t-full = header-full l so t (r .long ∙ f .long)
 
-    e : header l (putWord l t n 0) ≡ putWord l (header l t) n 0
-    e = header-word l so t n 0 kn
+    e : header l (putSlot l t n 0) ≡ putSlot l (header l t) n 0
+    e = header-slot l so t n 0 kn
 
     zero-fits : 0 < 4096 * l .ids
     zero-fits = omega (arith, so .nameable)
 
-    other : (a : ℕ) → a ≢ n → word l (header l (putWord l t n 0)) a ≡ word l (header l t) a
-    other a m = ap (λ (h : List ℕ). word l h a) e ∙ word-other l so (header l t) t-full n kn 0 a m
+    other : (a : ℕ) → a < l .slots → a ≢ n → word l (header l (putSlot l t n 0)) a ≡ word l (header l t) a
+    other a la m = ap (λ (h : List ℕ). word l h a) e ∙ word-slot-else l so (header l t) t-full n kn 0 a la m
 
-    gone-at : (a : ℕ) → a < suc n → guestOf l (word l (header l s) a) ≡ g → Dec (a ≡ n) → word l (header l (putWord l t n 0)) a ≡ 0
-    gone-at a m x (yes p) = ap (word l (header l (putWord l t n 0))) p ∙ ap (λ (h : List ℕ). word l h n) e ∙ word-same l so (header l t) t-full n kn 0 zero-fits
-    gone-at a m x (no c) = other a c ∙ r .gone a (omega arith) x
+    gone-at : (a : ℕ) → a < suc n → guestOf l (word l (header l s) a) ≡ g → Dec (a ≡ n) → word l (header l (putSlot l t n 0)) a ≡ 0
+    gone-at a m x (yes p) = ap (word l (header l (putSlot l t n 0))) p ∙ ap (λ (h : List ℕ). word l h n) e ∙ word-slot l so (header l t) t-full n kn 0 zero-fits
+    gone-at a m x (no c) = other a (omega arith) c ∙ r .gone a (omega arith) x
 
-    less-one : Less g (suc n) (putWord l t n 0)
+    less-one : Less g (suc n) (putSlot l t n 0)
     less-one = record {
-      long = put-long l t n 0 ∙ r .long;
-      words = subst (Words l) (sym e) (words-put l so (header l t) t-full n kn 0 zero-fits (r .words) (λ m. absurd (m refl)) (λ m. absurd (m refl)));
-      lives = λ k. ap (λ (h : List ℕ). live l h k) e ∙ live-same l so (header l t) t-full n kn 0 k ∙ r .lives k;
-      head = ap (headGood l) e ∙ head-same l so (header l t) t-full n kn 0 ∙ r .head;
-      later = λ a m. other a (omega arith) ∙ r .later a (omega arith);
-      kept = λ a m. other a (λ p. m (ap (λ (b : ℕ). guestOf l (word l (header l s) b)) p ∙ here)) ∙ r .kept a m;
+      long = slot-long l so t n 0 ∙ r .long;
+      words = subst (Words l) (sym e) (words-slot l so (header l t) t-full n kn 0 zero-fits (r .words) (λ m. absurd (m refl)) (λ m. absurd (m refl)));
+      lives = λ k. ap (λ (h : List ℕ). live l h k) e ∙ live-slot l so (header l t) t-full n kn 0 k ∙ r .lives k;
+      head = ap (headGood l) e ∙ head-slot l so (header l t) t-full n kn 0 ∙ r .head;
+      later = λ a la m. other a la (omega arith) ∙ r .later a la (omega arith);
+      kept = λ a la m. other a la (λ p. m (ap (λ (b : ℕ). guestOf l (word l (header l s) b)) p ∙ here)) ∙ r .kept a la m;
       gone = λ a m x. gone-at a m x (ℕ-discrete a n);
+      marks = λ a la m. ap (λ (h : List ℕ). isTaken l h a) e
+          ∙ taken-slot-else l so (header l t) t-full n kn 0 a la (λ p. m (ap (λ (b : ℕ). guestOf l (word l (header l s) b)) p ∙ here)) ∙ r .marks a la m;
     }
 
   -- a word of t that is not guest g's
@@ -270,8 +319,9 @@ module _ (l : Layout) (so : Sound l) (s : List ℕ) (good : wellFormed l s ≡ t
     words = r .words;
     lives = r .lives;
     head = r .head;
-    later = λ a m. r .later a (omega arith);
+    later = λ a la m. r .later a la (omega arith);
     kept = r .kept;
+    marks = r .marks;
     gone = λ a m x. r .gone a (less a m x (ℕ-discrete a n)) x;
   }
     where
@@ -282,13 +332,13 @@ module _ (l : Layout) (so : Sound l) (s : List ℕ) (good : wellFormed l s ≡ t
   pub drop-less : (g n : ℕ) → n ≤ l .slots → Less g n (dropWords l g n s)
   unfolding dropWords dropWord
   drop-less g zero k =
-      record { long = refl; words = words-are l (header l s) (f .words); lives = λ k. refl; head = refl; later = λ a m. refl; kept = λ a m. refl; gone = λ a m. absurd (not-suc-le-zero m) }
+      record { long = refl; words = words-are l (header l s) (f .words); lives = λ k. refl; head = refl; later = λ a la m. refl; kept = λ a la m. refl; gone = λ a m. absurd (not-suc-le-zero m); marks = λ a la m. refl }
   drop-less g (suc n) k = go (eqb (guestOf l (word l (header l (dropWords l g n s)) n)) g) refl (drop-less g n (omega arith))
     where
       go : (b : Bool) → eqb (guestOf l (word l (header l (dropWords l g n s)) n)) g ≡ b → Less g n (dropWords l g n s)
-          → Less g (suc n) (cond b (putWord l (dropWords l g n s) n 0) (dropWords l g n s))
-      go true q r = less-one g n k (dropWords l g n s) r (ap (guestOf l) (sym (r .later n (omega arith))) ∙ eqb-true _ _ q)
-      go false q r = less-same g n (dropWords l g n s) r (λ x. eqb-false _ _ q (ap (guestOf l) (r .later n (omega arith)) ∙ x))
+          → Less g (suc n) (cond b (putSlot l (dropWords l g n s) n 0) (dropWords l g n s))
+      go true q r = less-one g n k (dropWords l g n s) r (ap (guestOf l) (sym (r .later n k (omega arith))) ∙ eqb-true _ _ q)
+      go false q r = less-same g n (dropWords l g n s) r (λ x. eqb-false _ _ q (ap (guestOf l) (r .later n k (omega arith)) ∙ x))
 
   pub delete-kept : (g : ℕ) → live l (header l s) g ≡ true → wellFormed l (withoutGuest l s g) ≡ true
   unfolding withoutGuest
@@ -299,7 +349,7 @@ module _ (l : Layout) (so : Sound l) (s : List ℕ) (good : wellFormed l s ≡ t
 
       off : Less g (l .slots) t → (a : ℕ) → a < l .slots → word l (header l t) a ≢ 0 → Dec (guestOf l (word l (header l s) a) ≡ g) → guestOf l (word l (header l t) a) ≢ g
       off r a la n (yes x) = absurd (n (r .gone a la x))
-      off r a la n (no m) = λ x. m (ap (guestOf l) (sym (r .kept a m)) ∙ x)
+      off r a la n (no m) = λ x. m (ap (guestOf l) (sym (r .kept a la m)) ∙ x)
 
       all : Less g (l .slots) t → (1 ≤ g) × (g ≤ l .guests) → wellFormed l (putLive t g 0) ≡ true
       all r q =
@@ -314,33 +364,39 @@ module _ (l : Layout) (so : Sound l) (s : List ℕ) (good : wellFormed l s ≡ t
                 (λ a la n lv. live-else l so (header l t) full g lo hi 0 (guestOf l (word l (header l t) a)) (off r a la n (ℕ-discrete (guestOf l (word l (header l s) a)) g)) ∙ lv));
           })
 
-  -- ---- delete all guests: no slot below n has a word
+  -- ---- delete all guests: no slot below n has a word or a mark
   pub record Bare (n : ℕ) (t : List ℕ) : Type 0 where
     pub long : length t ≡ length s
     pub head : headGood l (header l t) ≡ headGood l (header l s)
     pub bare : (a : ℕ) → a < n → word l (header l t) a ≡ 0
+    pub unmarked : (a : ℕ) → a < n → isTaken l (header l t) a ≡ false
 
   pub words-gone : (n : ℕ) → n ≤ l .slots → Bare n (noWords l n s)
   unfolding noWords
-  words-gone zero k = record { long = refl; head = refl; bare = λ a m. absurd (not-suc-le-zero m) }
+  words-gone zero k = record { long = refl; head = refl; bare = λ a m. absurd (not-suc-le-zero m); unmarked = λ a m. absurd (not-suc-le-zero m) }
   words-gone (suc n) k = next (words-gone n (omega arith))
     where
       t : List ℕ
       t = noWords l n s
 
-      next : Bare n t → Bare (suc n) (putWord l t n 0)
+      next : Bare n t → Bare (suc n) (putSlot l t n 0)
       next r =
           let full = header-full l so t (r .long ∙ f .long) in
-          let e = header-word l so t n 0 k in
+          let e = header-slot l so t n 0 k in
           record {
-            long = put-long l t n 0 ∙ r .long;
-            head = ap (headGood l) e ∙ head-same l so (header l t) full n k 0 ∙ r .head;
+            long = slot-long l so t n 0 ∙ r .long;
+            head = ap (headGood l) e ∙ head-slot l so (header l t) full n k 0 ∙ r .head;
             bare = λ a m. ap (λ (h : List ℕ). word l h a) e ∙ at full r a m (ℕ-discrete a n);
+            unmarked = λ a m. ap (λ (h : List ℕ). isTaken l h a) e ∙ mark full r a m (ℕ-discrete a n);
           }
         where
-          at : length (header l t) ≡ l .«guests_at» → Bare n t → (a : ℕ) → a < suc n → Dec (a ≡ n) → word l (putWord l (header l t) n 0) a ≡ 0
-          at full r a m (yes p) = ap (word l (putWord l (header l t) n 0)) p ∙ word-same l so (header l t) full n k 0 (omega (arith, so .nameable))
-          at full r a m (no c) = word-other l so (header l t) full n k 0 a c ∙ r .bare a (omega arith)
+          at : length (header l t) ≡ l .«guests_at» → Bare n t → (a : ℕ) → a < suc n → Dec (a ≡ n) → word l (putSlot l (header l t) n 0) a ≡ 0
+          at full r a m (yes p) = ap (word l (putSlot l (header l t) n 0)) p ∙ word-slot l so (header l t) full n k 0 (omega (arith, so .nameable))
+          at full r a m (no c) = word-slot-else l so (header l t) full n k 0 a (omega arith) c ∙ r .bare a (omega arith)
+
+          mark : length (header l t) ≡ l .«guests_at» → Bare n t → (a : ℕ) → a < suc n → Dec (a ≡ n) → isTaken l (putSlot l (header l t) n 0) a ≡ false
+          mark full r a m (yes p) = ap (isTaken l (putSlot l (header l t) n 0)) p ∙ taken-slot l so (header l t) full n k 0
+          mark full r a m (no c) = taken-slot-else l so (header l t) full n k 0 a (omega arith) c ∙ r .unmarked a (omega arith)
 
   pub guests-gone : (n : ℕ) → n ≤ l .guests → Bare (l .slots) (noGuests n (noWords l (l .slots) s))
   unfolding noGuests
@@ -360,6 +416,7 @@ module _ (l : Layout) (so : Sound l) (s : List ℕ) (good : wellFormed l s ≡ t
             long = live-long t (n + 1) 0 ∙ r .long;
             head = ap (headGood l) e ∙ head-live l so (header l t) full (n + 1) lo hi 0 ∙ r .head;
             bare = λ a m. ap (λ (h : List ℕ). word l h a) e ∙ word-live l so (header l t) full (n + 1) lo hi 0 a ∙ r .bare a m;
+            unmarked = λ a m. ap (λ (h : List ℕ). isTaken l h a) e ∙ taken-live l so (header l t) full (n + 1) lo hi 0 a ∙ r .unmarked a m;
           }
 
   pub delete-all-kept : wellFormed l (withoutGuests l s) ≡ true
@@ -370,7 +427,7 @@ module _ (l : Layout) (so : Sound l) (s : List ℕ) (good : wellFormed l s ≡ t
       well-formed l t (record {
         long = r .long ∙ f .long;
         head = r .head ∙ f .head;
-        words = words-good l (header l t) (record { good = λ a la n. absurd (n (r .bare a la)); sole = λ a b la m n. absurd (n (r .bare a la)) });
+        words = words-good l (header l t) (record { good = λ a la n. absurd (n (r .bare a la)); sole = λ a b la m n. absurd (n (r .bare a la)); idle = λ a la z. r .unmarked a la });
       })
 
   -- what delete frees: the guest's live bit and its slots, and nothing else
@@ -400,6 +457,12 @@ module _ (l : Layout) (so : Sound l) (s : List ℕ) (good : wellFormed l s ≡ t
           ap (λ (h : List ℕ). word l h a) (header-live l so (dropWords l g (l .slots) s) g 0 (bound .1))
           ∙ word-live l so (header l (dropWords l g (l .slots) s)) dropped-full g (bound .0) (bound .1) 0 a
 
+      left-mark : (a : ℕ) → isTaken l (header l (withoutGuest l s g)) a ≡ isTaken l (header l (dropWords l g (l .slots) s)) a
+      unfolding withoutGuest
+      left-mark a =
+          ap (λ (h : List ℕ). isTaken l h a) (header-live l so (dropWords l g (l .slots) s) g 0 (bound .1))
+          ∙ taken-live l so (header l (dropWords l g (l .slots) s)) dropped-full g (bound .0) (bound .1) 0 a
+
     pub deleted-live : live l (header l (withoutGuest l s g)) g ≡ false
     deleted-live = gone-live (drop-less g (l .slots) (omega arith))
 
@@ -409,5 +472,57 @@ module _ (l : Layout) (so : Sound l) (s : List ℕ) (good : wellFormed l s ≡ t
     pub deleted-slot : (a : ℕ) → a < l .slots → guestOf l (word l (header l s) a) ≡ g → word l (header l (withoutGuest l s g)) a ≡ 0
     deleted-slot a la e = let r = drop-less g (l .slots) (omega arith) in left-word r a ∙ r .gone a la e
 
-    pub deleted-other : (a : ℕ) → guestOf l (word l (header l s) a) ≢ g → word l (header l (withoutGuest l s g)) a ≡ word l (header l s) a
-    deleted-other a n = let r = drop-less g (l .slots) (omega arith) in left-word r a ∙ r .kept a n
+    pub deleted-other : (a : ℕ) → a < l .slots → guestOf l (word l (header l s) a) ≢ g → word l (header l (withoutGuest l s g)) a ≡ word l (header l s) a
+    deleted-other a la n = let r = drop-less g (l .slots) (omega arith) in left-word r a ∙ r .kept a la n
+
+    pub deleted-mark : (a : ℕ) → a < l .slots → guestOf l (word l (header l s) a) ≢ g → isTaken l (header l (withoutGuest l s g)) a ≡ isTaken l (header l s) a
+    deleted-mark a la n = let r = drop-less g (l .slots) (omega arith) in left-mark r a ∙ r .marks a la n
+
+  vcpu-header : (j : ℕ) → j < l .slots → (g v : ℕ) → header l (withVcpu l s j g v) ≡ putSlot l (header l s) j (wordOf l g v)
+  unfolding withVcpu
+  vcpu-header j hj g v =
+      header-values l so (putSlot l s j (wordOf l g v)) (slotAt l j) (zeros slotBytes) (omega (arith, so .guests-fit)) ∙ header-slot l so s j (wordOf l g v) hj
+
+  -- ---- marks: only a used slot has one, and it may be set there
+  module _ (a : ℕ) (la : a < l .slots) where
+    pub taken-word : isTaken l (header l s) a ≡ true → word l (header l s) a ≢ 0
+    taken-word t z = no-bool (sym (words-are l (header l s) (f .words) .idle a la z) ∙ t)
+
+    pub taken-used : isTaken l (header l s) a ≡ true → isUsed l (word l (header l s) a) ≡ true
+    unfolding isUsed
+    taken-used t = le-leb _ _ (words-are l (header l s) (f .words) .good a la (taken-word t) .0)
+
+    pub mark-kept : (b : ℕ) → (word l (header l s) a ≡ 0 → eqb (b % 2) 1 ≡ false) → wellFormed l (putTaken l s a b) ≡ true
+    mark-kept b i =
+        let e = header-mark l so s a b la in
+        well-formed l (putTaken l s a b) (record {
+          long = mark-long l so s a b ∙ f .long;
+          head = ap (headGood l) e ∙ head-mark l so (header l s) full a la b ∙ f .head;
+          words = ap (wordsGood l) e ∙ words-good l (putTaken l (header l s) a b) (words-mark l so (header l s) full a la b (words-are l (header l s) (f .words)) i);
+        })
+
+    pub mark-set-kept : (b : ℕ) → word l (header l s) a ≢ 0 → wellFormed l (putTaken l s a b) ≡ true
+    mark-set-kept b n = mark-kept b (λ z. absurd (n z))
+
+    pub mark-clear-kept : wellFormed l (putTaken l s a 0) ≡ true
+    mark-clear-kept = mark-kept 0 (λ z. refl)
+
+    -- ---- 02, L1: "creating or dropping a vCPU clears its mark", and no other
+    pub guest-mark : (g : ℕ) → 1 ≤ g → g ≤ l .guests → isTaken l (header l (withGuest l s g)) a ≡ isTaken l (header l s) a
+    unfolding withGuest
+    guest-mark g lo hi =
+        ap (λ (h : List ℕ). isTaken l h a) (header-values l so (putLive s g 1) (guestAt l g) (zeros guestBytes) (omega arith) ∙ header-live l so s g 1 hi)
+        ∙ taken-live l so (header l s) full g lo hi 1 a
+
+    pub vcpu-mark : (g v : ℕ) → isTaken l (header l (withVcpu l s a g v)) a ≡ false
+    vcpu-mark g v = ap (λ (h : List ℕ). isTaken l h a) (vcpu-header a la g v) ∙ taken-slot l so (header l s) full a la (wordOf l g v)
+
+    pub vcpu-mark-else : (j g v : ℕ) → j < l .slots → a ≢ j → isTaken l (header l (withVcpu l s j g v)) a ≡ isTaken l (header l s) a
+    vcpu-mark-else j g v hj n = ap (λ (h : List ℕ). isTaken l h a) (vcpu-header j hj g v) ∙ taken-slot-else l so (header l s) full j hj (wordOf l g v) a la n
+
+    pub delete-mark : (g : ℕ) → live l (header l s) g ≡ true → guestOf l (word l (header l s) a) ≡ g → isTaken l (header l (withoutGuest l s g)) a ≡ false
+    delete-mark g lv e = words-are l (header l (withoutGuest l s g)) (formed l (withoutGuest l s g) (delete-kept g lv) .words) .idle a la (deleted-slot g lv a la e)
+
+    pub delete-all-mark : isTaken l (header l (withoutGuests l s)) a ≡ false
+    unfolding withoutGuests
+    delete-all-mark = guests-gone (l .guests) (omega arith) .unmarked a la

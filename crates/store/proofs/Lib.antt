@@ -4,7 +4,10 @@ pub mod Readings
 pub mod Tests
 pub mod Writes
 pub mod WordFields
+pub mod Marks
 pub mod Small
 pub mod Frame
+pub mod Beside
+pub mod Again
 pub mod Kept
 pub mod Counted

@@ -19,7 +19,7 @@ use Rattle.octets.proofs.Swaps.{swap2-same}
 use Rattle.octets.proofs.Bits.{bits-byte, bits-be, bit-front, bits-front}
 use Rattle.store.specs.declared.Layout.{Layout}
 use Rattle.store.specs.Layout.{Sound}
-use Rattle.store.specs.Header.{header, outside, offered, capabilitiesOf, live, wordAt, word, holds, headGood}
+use Rattle.store.specs.Header.{header, outside, offered, capabilitiesOf, live, wordAt, word, isTaken, holds, headGood}
 
 -- n fields of w bits: field i ends before the end
 pub step : (w i n : ℕ) → i < n → w * i + w ≤ w * n
@@ -95,6 +95,22 @@ module _ (l : Layout) (h : Sound l) (s : List ℕ) where
 
     pub live-byte : g ≤ l .guests → (63 + g) / 8 < l .«guests_at»
     live-byte m = omega (arith, h .head, h .words, h .some-zeros)
+
+  -- ---- a mark
+  pub taken-read : (a x : ℕ) → a < l .slots → x ≡ getD s (l .«taken_at» + a / 8) 0 → x < 256 → eqb (x * 2 ^ (a % 8) % 2 ^ 64 / 128 % 2) 1 ≡ isTaken l (header l s) a
+  unfolding isTaken header
+  taken-read a x k e b =
+      let j = 8 * l .«taken_at» + a in
+      let p : l .«taken_at» + a / 8 ≡ (8 * l .«taken_at» + a) / 8 = omega arith in
+      let q : a % 8 ≡ (8 * l .«taken_at» + a) % 8 = omega arith in
+      let r : a % 8 < 8 = omega arith in
+      let i : 8 * l .«taken_at» + a < 8 * l .«guests_at» = omega (arith, h .marks) in
+      ap (λ (y : ℕ). eqb (y % 2) 1) (shifted x (a % 8) b r)
+      ∙ ap (λ (n : ℕ). eqb (x / 2 ^ (7 - n) % 2) 1) q
+      ∙ ap (λ (y : ℕ). eqb y 1) (bit-of s j x (e ∙ ap (λ (n : ℕ). getD s n 0) p) ∙ sym (bit-front s (l .«guests_at») j i))
+
+  pub taken-byte : (a : ℕ) → a < l .slots → l .«taken_at» + a / 8 < l .«guests_at»
+  taken-byte a k = omega (arith, h .marks)
 
   -- ---- the head
   module _ (c : ℕ) (e : c ≡ be s 0 8) where

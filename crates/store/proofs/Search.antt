@@ -30,6 +30,11 @@ every-at p (suc n) i h k a b = go (ℕ-discrete k i) (both (p i) (every p n (i +
     go (yes e) q ih = ap p e ∙ q .0
     go (no m) q ih = ih (q .1) k (omega arith) (omega arith)
 
+pub every-ext : (p q : ℕ → Bool) (n i : ℕ) → ((k : ℕ) → i ≤ k → k < i + n → p k ≡ q k) → every p n i ≡ every q n i
+unfolding every
+every-ext p q zero i h = refl
+every-ext p q (suc n) i h = ap₂ _&&_ (h i (omega arith) (omega arith)) (every-ext p q n (i + 1) (λ k a b. h k (omega arith) (omega arith)))
+
 -- ---- first
 pub first-bounds : (p : ℕ → Bool) (n i : ℕ) → (i ≤ first p n i) × (first p n i ≤ i + n)
 unfolding first
@@ -39,6 +44,11 @@ first-bounds p (suc n) i = go (p i) (first-bounds p n (i + 1))
     go : (b : Bool) → (i + 1 ≤ first p n (i + 1)) × (first p n (i + 1) ≤ i + 1 + n) → (i ≤ cond b i (first p n (i + 1))) × (cond b i (first p n (i + 1)) ≤ i + suc n)
     go true q = (omega arith, omega arith)
     go false q = (omega (arith, q .0), omega (arith, q .1))
+
+pub first-ext : (p q : ℕ → Bool) (n i : ℕ) → ((k : ℕ) → i ≤ k → k < i + n → p k ≡ q k) → first p n i ≡ first q n i
+unfolding first
+first-ext p q zero i h = refl
+first-ext p q (suc n) i h = ap₂ (λ (t : Bool) (x : ℕ). cond t i x) (h i (omega arith) (omega arith)) (first-ext p q n (i + 1) (λ k a b. h k (omega arith) (omega arith)))
 
 -- j has p, and none before it has
 pub record Found (p : ℕ → Bool) (n i j : ℕ) : Type 0 where

@@ -9,7 +9,7 @@ use lib.ListN.{length}
 use borrow.Author.Tests.{eq-eqb, ne-eqb, le-leb, lt-leb, lt-ltb, le-ltb, leb-true, not-true, not-false}
 use Rattle.store.specs.declared.Layout.{Layout}
 use Rattle.store.specs.Layout.{Sound}
-use Rattle.store.specs.Header.{header, live, word, wordOf, isUsed, guestOf, headGood, wordsGood, slotHolding, slotOf, freeSlot}
+use Rattle.store.specs.Header.{header, live, word, wordOf, isUsed, guestOf, isTaken, headGood, wordsGood, slotHolding, slotOf, freeSlot}
 use Rattle.store.specs.Private.{timesOf, slotCounted}
 use Rattle.store.specs.Store.{wellFormed}
 use Rattle.store.proofs.Search.{both}
@@ -17,14 +17,14 @@ use Rattle.store.proofs.Search.{both}
 -- ---- a slot
 module _ (l : Layout) (s : List ℕ) (a w : ℕ) (e : w ≡ word l s a) where
   abbrev body : ℕ → Bool
-  body w = cond (eqb w 0) true (isUsed l w && (live l s (guestOf l w) && eqb (timesOf l s w) 1))
+  body w = cond (eqb w 0) (not (isTaken l s a)) (isUsed l w && (live l s (guestOf l w) && eqb (timesOf l s w) 1))
 
   slot-is : slotCounted l s a ≡ body w
   unfolding slotCounted
   slot-is = ap body (sym e)
 
-  pub slot-zero : w ≡ 0 → true ≡ slotCounted l s a
-  slot-zero z = sym (slot-is ∙ simp (eq-eqb _ _ z))
+  pub slot-zero : (x : Bool) → w ≡ 0 → x ≡ isTaken l s a → not x ≡ slotCounted l s a
+  slot-zero x z t = ap not t ∙ sym (slot-is ∙ simp (eq-eqb _ _ z))
 
   pub slot-unused : (w ≡ 0 → ⊥) → w / 2048 < l .ids → false ≡ slotCounted l s a
   unfolding isUsed

@@ -1,7 +1,7 @@
 -- The header's fields: what each says after one is written. Stated over a header h, of which the layout's size is known, and no
 -- width is named. Assumes nothing.
 use mathlib.Core.Path.{_≡_, refl, sym, ap, ap₂, _∙_, subst}
-use mathlib.Core.Logic.{_≢_}
+use mathlib.Core.Logic.{_≢_, _⊎_, inl, inr}
 use mathlib.Core.Bool.{Bool, true, false, _&&_}
 use mathlib.Core.List.{List}
 use Prim.Native.Nat.{ℕ, _+_, _*_, _%_, _^_, _≤_, _<_}
@@ -13,10 +13,11 @@ use lib.ListN.{length}
 use borrow.Author.Tests.{le-leb, leb-true}
 use Rattle.octets.specs.Bits.{bit, bits, putBits}
 use Rattle.octets.specs.Bytes.{Clear, left, right}
+use Rattle.octets.proofs.Bytes.{clear-sym}
 use Rattle.octets.proofs.Bits.{bits-put, bits-put-other, bit-put-other, length-putBits, bits-one, bits-add, be-putBits}
 use Rattle.store.specs.declared.Layout.{Layout}
 use Rattle.store.specs.Layout.{Sound}
-use Rattle.store.specs.Header.{outside, offered, capabilitiesOf, live, wordAt, word, headGood}
+use Rattle.store.specs.Header.{outside, offered, capabilitiesOf, live, wordAt, word, isTaken, headGood}
 use Rattle.store.specs.Store.{putLive, putWord}
 use Rattle.store.proofs.Readings.{step}
 
@@ -27,6 +28,15 @@ unfolding word
 word-fields l h i n e =
     ap (bits h (wordAt l i)) e ∙ bits-add h (wordAt l i) 1 (n + 11)
     ∙ ap₂ (λ (x y : ℕ). x * 2 ^ (n + 11) + y) (bits-one h (wordAt l i)) (bits-add h (wordAt l i + 1) n 11)
+
+-- a mark and a slot word have no bit in common
+pub mark-clear : (l : Layout) → Sound l → (j a : ℕ) → j < l .slots → a < l .slots → Clear (8 * l .«taken_at» + j) 1 (wordAt l a) (l .width)
+mark-clear l so j a hj la = go (so .marks-apart)
+  where
+    go : (8 * l .«taken_at» + l .slots ≤ 8 * l .«words_at») ⊎ (8 * l .«words_at» + l .width * l .slots ≤ 8 * l .«taken_at»)
+        → Clear (8 * l .«taken_at» + j) 1 (wordAt l a) (l .width)
+    go (inl p) = left (omega arith)
+    go (inr p) = right (omega (arith, step (l .width) a (l .slots) la))
 
 module _ (l : Layout) (so : Sound l) (h : List ℕ) (full : length h ≡ l .«guests_at») where
   word-room : (i : ℕ) → i < l .slots → wordAt l i + l .width ≤ 8 * length h
@@ -68,6 +78,14 @@ module _ (l : Layout) (so : Sound l) (h : List ℕ) (full : length h ≡ l .«gu
             ap (λ (x : ℕ). (leb 1 g && true) && eqb x 1)
             (bit-put-other h (wordAt l j) (l .width) w (63 + g) (right (omega (arith, leb-true g (l .guests) e, so .head, so .some-zeros))))
 
+    pub taken-same : (a : ℕ) → a < l .slots → isTaken l (putWord l h j w) a ≡ isTaken l h a
+    unfolding isTaken putWord
+    taken-same a la = ap (λ (x : ℕ). eqb x 1) (bit-put-other h (wordAt l j) (l .width) w (8 * l .«taken_at» + a) (clear-sym (mark-clear l so a j la hj)))
+
+    pub caps-same : capabilitiesOf (putWord l h j w) ≡ capabilitiesOf h
+    unfolding capabilitiesOf putWord
+    caps-same = be-putBits h (wordAt l j) (l .width) w 0 8 (right (omega (arith, so .head)))
+
     pub head-same : headGood l (putWord l h j w) ≡ headGood l h
     unfolding headGood capabilitiesOf putWord
     head-same =
@@ -84,6 +102,10 @@ module _ (l : Layout) (so : Sound l) (h : List ℕ) (full : length h ≡ l .«gu
     pub word-live : (a : ℕ) → word l (putLive h g b) a ≡ word l h a
     unfolding word putLive
     word-live a = bits-put-other h (63 + g) 1 b (wordAt l a) (l .width) (left (omega (arith, so .head)))
+
+    pub taken-live : (a : ℕ) → isTaken l (putLive h g b) a ≡ isTaken l h a
+    unfolding isTaken putLive
+    taken-live a = ap (λ (x : ℕ). eqb x 1) (bit-put-other h (63 + g) 1 b (8 * l .«taken_at» + a) (left (omega (arith, so .marks-head))))
 
     pub head-live : headGood l (putLive h g b) ≡ headGood l h
     unfolding headGood capabilitiesOf putLive

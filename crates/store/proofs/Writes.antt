@@ -12,7 +12,7 @@ use Rattle.octets.proofs.Bits.{put-bytes}
 use Rattle.store.specs.declared.Layout.{Layout}
 use Rattle.store.specs.Layout.{Sound, guestBytes, slotBytes, guestAt, slotAt}
 use Rattle.store.specs.Header.{header, word, wordOf, guestOf}
-use Rattle.store.specs.Store.{putCapabilities, putLive, putWord, withGuest, withVcpu, dropWord, dropWords, withoutGuest, noWords, noGuests, withoutGuests}
+use Rattle.store.specs.Store.{putCapabilities, putLive, putWord, putTaken, putSlot, withGuest, withVcpu, dropWord, dropWords, withoutGuest, noWords, noGuests, withoutGuests}
 use Rattle.store.proofs.Readings.{word-inside}
 
 pub caps-put : (s t : List ℕ) (c : ℕ) → t ≡ put s 0 (digits 8 c) → t ≡ putCapabilities s c
@@ -32,7 +32,7 @@ word-put l h s t i w long k b e =
 pub word-fits : (l : Layout) (w : ℕ) → Sound l → w < 4096 * l .ids → w < 2 ^ 16
 word-fits l w h k = omega (arith, sym (h .digits) ∙ ap (λ (n : ℕ). 2 ^ n) (h .two-bytes))
 
--- ---- a live bit: the three parts of its byte, and that they make one
+-- ---- a live bit or a mark: the three parts of its byte, and that they make one
 pub record Parts (x k b : ℕ) : Type 0 where
   pub high : x / 2 ^ (k + 1) * 2 ^ (k + 1) % 2 ^ 64 ≡ x / 2 ^ (k + 1) * 2 ^ (k + 1)
   pub low : x / 2 ^ k * 2 ^ k % 2 ^ 64 ≤ x
@@ -69,14 +69,28 @@ live-put s g b x v e q =
     let f : 63 + g + 0 ≡ 63 + g = omega arith in
     rw f (ap (set s ((63 + g) / 8)) (q ∙ ap (λ (y : ℕ). ins y (7 - (63 + g) % 8) 1 b) e))
 
+pub mark-put : (l : Layout) (s : List ℕ) (a b x v : ℕ) → x ≡ getD s (l .«taken_at» + a / 8) 0 → v ≡ ins x (7 - a % 8) 1 b → set s (l .«taken_at» + a / 8) v ≡ putTaken l s a b
+unfolding putTaken putBits setBit
+mark-put l s a b x v e q =
+    let f : 8 * l .«taken_at» + a + 0 ≡ 8 * l .«taken_at» + a = omega arith in
+    let i : (8 * l .«taken_at» + a) / 8 ≡ l .«taken_at» + a / 8 = omega arith in
+    let k : (8 * l .«taken_at» + a) % 8 ≡ a % 8 = omega arith in
+    rw (f, i, k) (ap (set s (l .«taken_at» + a / 8)) (q ∙ ap (λ (y : ℕ). ins y (7 - a % 8) 1 b) e))
+
+-- a mark cleared, then the word
+pub slot-put : (l : Layout) (s t u : List ℕ) (j w : ℕ) → t ≡ putTaken l s j 0 → u ≡ putWord l t j w → u ≡ putSlot l s j w
+unfolding putSlot
+slot-put l s t u j w e f = f ∙ ap (λ (x : List ℕ). putWord l x j w) e
+
 -- ---- create
 pub guest-made : (l : Layout) (s t u : List ℕ) (g p : ℕ) → t ≡ putLive s g 1 → p ≡ guestAt l g → u ≡ put t p (zeros guestBytes) → u ≡ withGuest l s g
 unfolding withGuest
 guest-made l s t u g p e q f = f ∙ ap₂ (λ (x : List ℕ) (i : ℕ). put x i (zeros guestBytes)) e q
 
-pub vcpu-made : (l : Layout) (s t u : List ℕ) (j g v p : ℕ) → t ≡ putWord l s j ((l .ids + g) * 2048 + v) → p ≡ slotAt l j → u ≡ put t p (zeros slotBytes) → u ≡ withVcpu l s j g v
+pub vcpu-made : (l : Layout) (s r t u : List ℕ) (j g v p : ℕ) → r ≡ putTaken l s j 0 → t ≡ putWord l r j ((l .ids + g) * 2048 + v) → p ≡ slotAt l j → u ≡ put t p (zeros slotBytes)
+    → u ≡ withVcpu l s j g v
 unfolding withVcpu wordOf
-vcpu-made l s t u j g v p e q f = f ∙ ap₂ (λ (x : List ℕ) (i : ℕ). put x i (zeros slotBytes)) e q
+vcpu-made l s r t u j g v p m e q f = f ∙ ap₂ (λ (x : List ℕ) (i : ℕ). put x i (zeros slotBytes)) (slot-put l s r t j ((l .ids + g) * 2048 + v) m e) q
 
 -- ---- delete
 module _ (l : Layout) (g a : ℕ) (s : List ℕ) (w : ℕ) (e : w ≡ word l (header l s) a) (low : 1 ≤ g) where
@@ -86,7 +100,7 @@ module _ (l : Layout) (g a : ℕ) (s : List ℕ) (w : ℕ) (e : w ≡ word l (he
       let m : word l (header l s) a / 2048 - l .ids ≡ g → ⊥ = λ z. n (ap (λ (x : ℕ). x / 2048) e ∙ omega (arith, z)) in
       simp (ne-eqb _ _ m)
 
-  pub drop-it : (t : List ℕ) → w / 2048 ≡ l .ids + g → t ≡ putWord l s a 0 → t ≡ dropWord l g a s
+  pub drop-it : (t : List ℕ) → w / 2048 ≡ l .ids + g → t ≡ putSlot l s a 0 → t ≡ dropWord l g a s
   unfolding dropWord guestOf
   drop-it t q f =
       let m : word l (header l s) a / 2048 - l .ids ≡ g = omega (arith, ap (λ (x : ℕ). x / 2048) e) in
@@ -114,9 +128,9 @@ module _ (l : Layout) (s : List ℕ) where
   unfolding noWords
   words-none = refl
 
-  pub words-more : (a : ℕ) (t u : List ℕ) → t ≡ noWords l a s → u ≡ putWord l t a 0 → u ≡ noWords l (a + 1) s
+  pub words-more : (a : ℕ) (t u : List ℕ) → t ≡ noWords l a s → u ≡ putSlot l t a 0 → u ≡ noWords l (a + 1) s
   unfolding noWords
-  words-more a t u e f = f ∙ ap (λ (x : List ℕ). putWord l x a 0) e ∙ ap (λ (n : ℕ). noWords l n s) (sym (add-one a))
+  words-more a t u e f = f ∙ ap (λ (x : List ℕ). putSlot l x a 0) e ∙ ap (λ (n : ℕ). noWords l n s) (sym (add-one a))
 
   pub words-all : (a : ℕ) (t : List ℕ) → t ≡ noWords l a s → a ≤ l .slots → l .slots ≤ a → t ≡ noWords l (l .slots) s
   words-all a t e h k = let q : a ≡ l .slots = omega arith in e ∙ ap (λ (n : ℕ). noWords l n s) q

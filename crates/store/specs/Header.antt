@@ -1,7 +1,7 @@
 -- 01, "The store": what stands before the values. Every test of a store but its length is one of its header, so that a write into
 -- values changes none of them.
 use Prim.Native.Nat.{ℕ, _+_, _-_, _*_, _/_, _^_}
-use mathlib.Core.Bool.{Bool, true, not, _&&_, cond}
+use mathlib.Core.Bool.{Bool, not, _&&_, cond}
 use mathlib.Core.List.{List}
 use lib.Dec.{leb, ltb, eqb}
 use lib.Bits.{bitAnd}
@@ -46,6 +46,10 @@ isUsed l w = leb (l .ids * 2048) w
 unfoldable pub guestOf : Layout → ℕ → ℕ
 guestOf l w = w / 2048 - l .ids
 
+-- 02, L1: "The store gains two bytes of taken marks after the slot words": the mark of slot a is bit a of them, the most significant first
+unfoldable pub isTaken : Layout → List ℕ → ℕ → Bool
+isTaken l h a = eqb (bit h (8 * l .«taken_at» + a)) 1
+
 -- slot a holds the word w, or lacks it
 unfoldable pub holds : Layout → List ℕ → ℕ → ℕ → Bool
 holds l h w a = eqb (word l h a) w
@@ -57,10 +61,10 @@ lacks l h w a = not (eqb (word l h a) w)
 unfoldable pub alone : Layout → List ℕ → ℕ → ℕ → Bool
 alone l h w a = every (lacks l h w) a 0
 
--- "each used word names a live guest, no two the same pair, unused words zero"
+-- "each used word names a live guest, no two the same pair, unused words zero". 02, L1: "a mark on an unused slot is ill formed"
 unfoldable pub slotGood : Layout → List ℕ → ℕ → Bool
 slotGood l h a =
-    cond (eqb (word l h a) 0) true
+    cond (eqb (word l h a) 0) (not (isTaken l h a))
     (isUsed l (word l h a) && (live l h (guestOf l (word l h a)) && alone l h (word l h a) a))
 
 -- "byte 9 zero, no capability but bits 1 and 2"

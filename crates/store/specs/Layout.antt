@@ -1,6 +1,7 @@
 -- 01, "The store": where its parts lie. Definitions and laws take a layout; only this file and the code's `small_layout` name its numbers.
 use Prim.Native.Nat.{ℕ, _+_, _-_, _*_, _^_, _%_, _≤_, _<_}
 use mathlib.Core.Path.{_≡_}
+use mathlib.Core.Logic.{_⊎_}
 use Rattle.store.specs.declared.Layout.{Layout}
 
 -- "52 bytes per guest", "1,820 bytes per slot"
@@ -12,9 +13,10 @@ slotBytes = 1820
 
 -- "29,578 bytes .. Bytes 0-7 the agreed capabilities; byte 8 the live guests 1 to 8 ..; byte 9 zero; from byte 10 sixteen slot words
 -- of 16 bits: used (1 bit), guest id (4), vCPU id (11). From 42, 52 bytes per guest .. From 458, 1,820 bytes per slot"
+-- 02, L1: "The store gains two bytes of taken marks after the slot words (29,580 bytes; values move by two)": 44 and 460.
 -- `ids` is how many guest ids a slot word can name.
 abbrev pub small : Layout
-small = record { guests = 8; zeros = 8; slots = 16; ids = 16; width = 16; «words_at» = 10; «guests_at» = 42; «slots_at» = 458; size = 29578 }
+small = record { guests = 8; zeros = 8; slots = 16; ids = 16; width = 16; «words_at» = 10; «taken_at» = 42; «guests_at» = 44; «slots_at» = 460; size = 29580 }
 
 -- where the values of guest g, counted from 1, and of slot j, counted from 0, start
 abbrev pub guestAt : Layout → ℕ → ℕ
@@ -37,5 +39,9 @@ pub record Sound (l : Layout) : Type 0 where
   pub guests-fit : l .«guests_at» + guestBytes * l .guests ≤ l .«slots_at»
   pub whole : l .«slots_at» + slotBytes * l .slots ≡ l .size
   pub small-size : l .size ≤ 1000000
+  pub marks-head : 64 + l .guests + l .zeros ≤ 8 * l .«taken_at»
+  pub marks : 8 * l .«taken_at» + l .slots ≤ 8 * l .«guests_at»
+  -- the marks lie before the slot words or behind them
+  pub marks-apart : (8 * l .«taken_at» + l .slots ≤ 8 * l .«words_at») ⊎ (8 * l .«words_at» + l .width * l .slots ≤ 8 * l .«taken_at»)
   -- only the reader and the writer of a slot word use this one
   pub two-bytes : l .width ≡ 16

@@ -1,5 +1,5 @@
 -- 01, "The store": a store as a whole, and what calls make of it.
-use Prim.Native.Nat.{ℕ, zero, suc, _+_}
+use Prim.Native.Nat.{ℕ, zero, suc, _+_, _*_}
 use mathlib.Core.Bool.{Bool, _&&_, cond}
 use mathlib.Core.List.{List}
 use lib.Dec.{eqb}
@@ -11,7 +11,7 @@ use Rattle.store.specs.Layout.{guestBytes, slotBytes, guestAt, slotAt}
 use Rattle.store.specs.Header.{header, wordAt, word, wordOf, guestOf, headGood, wordsGood}
 
 -- "Well formed: right length, byte 9 zero, no capability but bits 1 and 2, each used word names a live guest, no two the same
--- pair, unused words zero. Value bytes are free."
+-- pair, unused words zero. Value bytes are free." 02, L1: "a mark on an unused slot is ill formed"
 unfoldable pub wellFormed : Layout → List ℕ → Bool
 wellFormed l s = eqb (length s) (l .size) && (headGood l (header l s) && wordsGood l (header l s))
 
@@ -29,16 +29,25 @@ putLive s g b = putBits s (63 + g) 1 b
 unfoldable pub putWord : Layout → List ℕ → ℕ → ℕ → List ℕ
 putWord l s i w = putBits s (wordAt l i) (l .width) w
 
+-- slot a's mark
+unfoldable pub putTaken : Layout → List ℕ → ℕ → ℕ → List ℕ
+putTaken l s a b = putBits s (8 * l .«taken_at» + a) 1 b
+
+-- 02, L1: "creating or dropping a vCPU clears its mark": slot i's word, with its mark cleared
+unfoldable pub putSlot : Layout → List ℕ → ℕ → ℕ → List ℕ
+putSlot l s i w = putWord l (putTaken l s i 0) i w
+
 -- "Create takes the lowest free id or slot and zeroes its values."
 unfoldable pub withGuest : Layout → List ℕ → ℕ → List ℕ
 withGuest l s g = put (putLive s g 1) (guestAt l g) (zeros guestBytes)
 
 unfoldable pub withVcpu : Layout → List ℕ → ℕ → ℕ → ℕ → List ℕ
-withVcpu l s j g v = put (putWord l s j (wordOf l g v)) (slotAt l j) (zeros slotBytes)
+withVcpu l s j g v = put (putSlot l s j (wordOf l g v)) (slotAt l j) (zeros slotBytes)
 
--- "Delete clears the live bit and the slot words only": of one guest, the words of slots 0 to n - 1
+-- "Delete clears the live bit and the slot words only", and 02, L1: "creating or dropping a vCPU clears its mark": of one guest, in slots 0 to
+-- n - 1
 unfoldable pub dropWord : Layout → ℕ → ℕ → List ℕ → List ℕ
-dropWord l g a s = cond (eqb (guestOf l (word l (header l s) a)) g) (putWord l s a 0) s
+dropWord l g a s = cond (eqb (guestOf l (word l (header l s) a)) g) (putSlot l s a 0) s
 
 unfoldable pub dropWords : Layout → ℕ → ℕ → List ℕ → List ℕ
 dropWords l g zero s = s
@@ -47,10 +56,10 @@ dropWords l g (suc n) s = dropWord l g n (dropWords l g n s)
 unfoldable pub withoutGuest : Layout → List ℕ → ℕ → List ℕ
 withoutGuest l s g = putLive (dropWords l g (l .slots) s) g 0
 
--- of all guests: every slot word, and every live bit
+-- of all guests: every slot word with its mark, and every live bit
 unfoldable pub noWords : Layout → ℕ → List ℕ → List ℕ
 noWords l zero s = s
-noWords l (suc n) s = putWord l (noWords l n s) n 0
+noWords l (suc n) s = putSlot l (noWords l n s) n 0
 
 unfoldable pub noGuests : ℕ → List ℕ → List ℕ
 noGuests zero s = s

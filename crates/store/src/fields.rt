@@ -1,4 +1,4 @@
-// The fields of a store's header written: capabilities, live bits, slot words. `header` reads them.
+// The fields of a store's header written: capabilities, live bits, slot words, taken marks. `header` reads them.
 use super::Layout;
 use octets::put16;
 use octets::put64;
@@ -8,7 +8,7 @@ ghost use Prim.Native.Nat.{_+_, _≤_, _<_, _*_};
 ghost use lib.ListN.{length};
 ghost use Rattle.octets.specs.Bits.{ins};
 ghost use Rattle.store.specs.Layout.{Sound};
-ghost use Rattle.store.specs.Store.{putCapabilities, putLive, putWord};
+ghost use Rattle.store.specs.Store.{putCapabilities, putLive, putWord, putTaken};
 
 pub fn put_capabilities(s: &mut [u8], l: Layout, c: u64)
     requires { ⌜ Sound l × (length (now s) ≡ l .size) ⌝ }
@@ -42,4 +42,13 @@ pub fn put_word(s: &mut [u8], l: Layout, i: usize, w: usize)
     ensures { λ _. ⌜ now (s .exit) ≡ putWord l (now (s .entry)) i w ⌝ }
 {
     put16(s, l.words_at + 2 * i, w as u16);
+}
+
+pub fn set_taken(s: &mut [u8], l: Layout, a: usize, b: u64)
+    requires { ⌜ Sound l × (length (now s) ≡ l .size) × (a < l .slots) × (b < 2) ⌝ }
+    ensures { λ _. ⌜ now (s .exit) ≡ putTaken l (now (s .entry)) a b ⌝ }
+{
+    let p = l.taken_at + a / 8;
+    let x = wide(s[p]);
+    s[p] = with_bit(x, (7 - a % 8) as u64, b);
 }

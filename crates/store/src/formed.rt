@@ -1,8 +1,9 @@
-// Whether a store is well formed. L3, "Less stack on the service processor": slot words are read from the lent store, and no array of
+// Whether a store is well formed. 02, L3, "Less stack on the service processor": slot words are read from the lent store, and no array of
 // them is kept. A function here, and all that it calls, has two of them at once at most: the one that is tested, and one that it is
 // compared with.
 use super::Layout;
 use super::header::is_live;
+use super::header::is_taken;
 use super::header::slot_word;
 use octets::get64;
 use octets::wide;
@@ -39,14 +40,14 @@ fn times(s: &[u8], l: Layout, w: usize) -> u16
     n
 }
 
-// A used word stands once, which is what no two alike comes to.
+// A used word stands once, which is what no two alike comes to. Only an unused slot's mark is looked at.
 fn slot_good(s: &[u8], l: Layout, a: usize) -> bool
     requires { ⌜ Sound l × (length (now s) ≡ l .size) × (a < l .slots) ⌝ }
     ensures { λ r. ⌜ r ≡ slotCounted l (header l (now (s .entry))) a ⌝ }
 {
     let w = slot_word(s, l, a);
     if w == 0 {
-        return true;
+        return !is_taken(s, l, a);
     }
     if w / 2048 < l.ids {
         return false;
@@ -57,7 +58,7 @@ fn slot_good(s: &[u8], l: Layout, a: usize) -> bool
     times(s, l, w) == 1
 }
 
-// L3: the test of the slot words keeps no array of them in a local, a parameter or a result, nor more than two at once.
+// 02, L3: the test of the slot words keeps no array of them in a local, a parameter or a result, nor more than two at once.
 fn words_good(s: &[u8], l: Layout) -> bool
     requires { ⌜ Sound l × (length (now s) ≡ l .size) ⌝ }
     ensures { λ r. ⌜ r ≡ wordsGood l (header l (now (s .entry))) ⌝ }

@@ -1,4 +1,4 @@
-// What a store's header says: capabilities, live guests, slot words. `slots` searches in them.
+// What a store's header says: capabilities, live guests, slot words, taken marks. `slots` searches in them.
 use super::Layout;
 use octets::get16;
 use octets::get64;
@@ -7,7 +7,7 @@ ghost use mathlib.Core.Path.{_≡_};
 ghost use Prim.Native.Nat.{_<_};
 ghost use lib.ListN.{length};
 ghost use Rattle.store.specs.Layout.{Sound};
-ghost use Rattle.store.specs.Header.{header, capabilitiesOf, live, word};
+ghost use Rattle.store.specs.Header.{header, capabilitiesOf, live, word, isTaken};
 
 pub fn capabilities_of(s: &[u8], l: Layout) -> u64
     requires { ⌜ Sound l × (length (now s) ≡ l .size) ⌝ }
@@ -35,4 +35,11 @@ pub fn is_live(s: &[u8], l: Layout, g: usize) -> bool
     }
     let i = g - 1;
     (wide(s[8 + i / 8]) << (i % 8)) / 128 % 2 == 1
+}
+
+pub fn is_taken(s: &[u8], l: Layout, a: usize) -> bool
+    requires { ⌜ Sound l × (length (now s) ≡ l .size) × (a < l .slots) ⌝ }
+    ensures { λ r. ⌜ r ≡ isTaken l (header l (now (s .entry))) a ⌝ }
+{
+    (wide(s[l.taken_at + a / 8]) << (a % 8)) / 128 % 2 == 1
 }

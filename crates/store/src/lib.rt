@@ -8,9 +8,11 @@ mod slots;
 mod update;
 
 pub use fields::put_capabilities;
+pub use fields::set_taken;
 pub use formed::well_formed;
 pub use header::capabilities_of;
 pub use header::is_live;
+pub use header::is_taken;
 pub use removal::without_guest;
 pub use removal::without_guests;
 pub use slots::any_live;
@@ -23,7 +25,7 @@ ghost use mathlib.Core.Path.{_≡_};
 ghost use Prim.Native.Nat.{_+_, _≤_, _<_, _*_};
 ghost use Rattle.store.specs.Layout.{Sound, small, guestAt, slotAt, guestBytes, slotBytes};
 
-// Numbers of guests and slots, and where slot words, guests' values and slots' values start. `zeros` is how many zero bits
+// Numbers of guests and slots, and where slot words, taken marks, guests' values and slots' values start. `zeros` is how many zero bits
 // follow the live bits, `ids` how many guest ids a slot word of `width` bits can name.
 pub struct Layout {
     pub guests: usize,
@@ -32,12 +34,13 @@ pub struct Layout {
     pub ids: usize,
     pub width: usize,
     pub words_at: usize,
+    pub taken_at: usize,
     pub guests_at: usize,
     pub slots_at: usize,
     pub size: usize,
 }
 
-// 01's store of 29,578 bytes.
+// 01's store with the taken marks of request L1: 29,580 bytes.
 pub fn small_layout() -> Layout
     ensures { λ r. ⌜ r ≡ small ⌝ }
 {
@@ -48,9 +51,10 @@ pub fn small_layout() -> Layout
         ids: 16,
         width: 16,
         words_at: 10,
-        guests_at: 42,
-        slots_at: 458,
-        size: 29578,
+        taken_at: 42,
+        guests_at: 44,
+        slots_at: 460,
+        size: 29580,
     }
 }
 

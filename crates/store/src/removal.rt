@@ -1,13 +1,23 @@
-// Guests removed from a store: their live bits and slot words. Values stay.
+// Guests removed from a store: their live bits, slot words and taken marks. Values stay.
 use super::Layout;
 use super::fields::put_word;
 use super::fields::set_live;
+use super::fields::set_taken;
 use super::header::slot_word;
 ghost use mathlib.Core.Path.{_≡_};
 ghost use Prim.Native.Nat.{_≤_, _<_};
 ghost use lib.ListN.{length};
 ghost use Rattle.store.specs.Layout.{Sound};
-ghost use Rattle.store.specs.Store.{dropWord, dropWords, withoutGuest, noWords, noGuests, withoutGuests};
+ghost use Rattle.store.specs.Store.{putSlot, dropWord, dropWords, withoutGuest, noWords, noGuests, withoutGuests};
+
+// Slot a unused: neither a word nor a mark.
+fn empty_slot(s: &mut [u8], l: Layout, a: usize)
+    requires { ⌜ Sound l × (length (now s) ≡ l .size) × (a < l .slots) ⌝ }
+    ensures { λ _. ⌜ now (s .exit) ≡ putSlot l (now (s .entry)) a 0 ⌝ }
+{
+    set_taken(s, l, a, 0);
+    put_word(s, l, a, 0);
+}
 
 fn drop_word(s: &mut [u8], l: Layout, g: usize, a: usize)
     requires { ⌜ Sound l × (length (now s) ≡ l .size) × (1 ≤ g) × (g ≤ l .guests) × (a < l .slots) ⌝ }
@@ -16,7 +26,7 @@ fn drop_word(s: &mut [u8], l: Layout, g: usize, a: usize)
     if slot_word(s, l, a) / 2048 != l.ids + g {
         return;
     }
-    put_word(s, l, a, 0);
+    empty_slot(s, l, a);
 }
 
 fn drop_words(s: &mut [u8], l: Layout, g: usize)
@@ -44,7 +54,7 @@ fn no_words(s: &mut [u8], l: Layout)
 {
     let mut a = 0;
     while a < l.slots {
-        put_word(s, l, a, 0);
+        empty_slot(s, l, a);
         a += 1;
     }
 }

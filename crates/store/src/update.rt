@@ -1,7 +1,8 @@
-// Guests and vCPUs added to a store: the live bit or the slot word, and values of zeros. `removal` removes them.
+// Guests and vCPUs added to a store: the live bit, or the slot word and no mark, and values of zeros. `removal` removes them.
 use super::Layout;
 use super::fields::put_word;
 use super::fields::set_live;
+use super::fields::set_taken;
 use super::guest_at;
 use super::slot_at;
 use octets::clear;
@@ -23,6 +24,7 @@ pub fn with_vcpu(s: &mut [u8], l: Layout, j: usize, g: usize, v: usize)
     requires { ⌜ Sound l × (length (now s) ≡ l .size) × (j < l .slots) × (g ≤ l .guests) × (v < 2048) ⌝ }
     ensures { λ _. ⌜ now (s .exit) ≡ withVcpu l (now (s .entry)) j g v ⌝ }
 {
+    set_taken(s, l, j, 0);
     put_word(s, l, j, (l.ids + g) * 2048 + v);
     clear(s, slot_at(l, j), 1820);
 }

@@ -42,7 +42,7 @@ module _ (k : Context) (base len : ℕ) (room : base + bytesOf (scopeFor (k .usa
   fits id x size e sc z false st (Fixed n) q = z ∙ fixed-size id x e st
   fits id x size e sc z false st (Stored p) q = absurd (never (listed-fixed id x e st))
     where
-      never : ((id ≡ 0x0001) × (x .source ≡ Fixed 1820)) ⊎ ((id ≡ 0x0002) × (x .source ≡ Fixed 124)) → ⊥
+      never : ((id ≡ 0x0001) × (x .source ≡ Fixed 1844)) ⊎ ((id ≡ 0x0002) × (x .source ≡ Fixed 124)) → ⊥
       never (inl h) = let w : _≡_ {A = ℕ} 0 1 = cc (h .1) in omega arith
       never (inr h) = let w : _≡_ {A = ℕ} 0 1 = cc (h .1) in omega arith
 

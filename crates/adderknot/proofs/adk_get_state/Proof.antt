@@ -13,9 +13,12 @@ registers-of-requires c κs = search needs
 same-length : tie.Need-same-length
 same-length c = search needs
 
+same-length-2 : tie.Need-same-length-2
+same-length-2 c = search needs
+
 returns : tie.Need-returns
-returns c = told-filled _ _ _ _ _ _ (c .before .before .before .get-state .ensures) (c .registers-of .ensures)
+returns c = told-filled _ _ _ _ _ _ (c .before .before .before .before .before .get-state .ensures) (c .registers-of .ensures)
 
 pub adk-get-state-spec : {M : Type 1} → statement M
 adk-get-state-spec =
-    tie.close (tie.spec get-state-requires registers-of-requires same-length returns)
+    tie.close (tie.spec get-state-requires registers-of-requires same-length same-length-2 returns)

@@ -1,5 +1,5 @@
 -- What the run left, as its three numbers.
-use Rattle.adderknot.proofs.Told.{told-ran}
+use Rattle.adderknot.proofs.Told.{told-filled}
 use borrow.Author.Needs.{needs}
 use Rattle.adderknot.proofs.adk_run_vcpu.Statement.{statement}
 use Rattle.adderknot.proofs.adk_run_vcpu.Tie as tie
@@ -17,7 +17,7 @@ same-length-2 : tie.Need-same-length-2
 same-length-2 c = search needs
 
 returns : tie.Need-returns
-returns c = told-ran _ _ _ _ _ (c .before .before .before .before .before .run-vcpu .ensures) (c .registers-of .ensures)
+returns c = told-filled _ _ _ _ _ _ (c .before .before .before .before .before .run-vcpu .ensures) (c .registers-of .ensures)
 
 pub adk-run-vcpu-spec : {M : Type 1} → statement M
 adk-run-vcpu-spec =

@@ -1,6 +1,6 @@
 -- By how far the tests came: the laws `target-..` of Targets.
 use Rattle.admission.proofs.FirstTests.{past-long, live-some, live-few}
-use Rattle.admission.proofs.Targets.{target-refused, target-dead, target-wide, target-absent, target-slot, held-wide, held-slot}
+use Rattle.admission.proofs.Targets.{target-refused, target-dead, target-wide, target-absent, target-taken, target-slot, held-wide, held-slot}
 use borrow.Author.Needs.{needs}
 use Rattle.admission.proofs.target_of.Statement.{statement}
 use Rattle.admission.proofs.target_of.Tie as tie
@@ -35,11 +35,17 @@ slot-of-requires c κs = (search needs, search (needs, past-long))
 returns-4 : tie.Need-returns-4
 returns-4 c = (search (needs, target-absent), tt)
 
+is-taken-requires : tie.Need-is-taken-requires
+is-taken-requires c κs = (search needs, search (needs, past-long), search needs)
+
+returns-5 : tie.Need-returns-5
+returns-5 c = (search (needs, target-taken), tt)
+
 slot-at-requires : tie.Need-slot-at-requires
 slot-at-requires c κs = search needs
 
-returns-5 : tie.Need-returns-5
-returns-5 c = (search (needs, target-slot), search (needs, held-slot, past-long))
+returns-6 : tie.Need-returns-6
+returns-6 c = (search (needs, target-slot), search (needs, held-slot, past-long))
 
 pub target-of-spec : {M : Type 1} → statement M
 target-of-spec =
@@ -55,5 +61,7 @@ target-of-spec =
     returns-3
     slot-of-requires
     returns-4
+    is-taken-requires
+    returns-5
     slot-at-requires
-    returns-5)
+    returns-6)

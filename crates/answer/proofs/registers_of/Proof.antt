@@ -172,6 +172,24 @@ three-requires-15 c κs = search needs
 returns-17 : tie.Need-returns-17
 returns-17 c = search (needs, row)
 
+enum-told-13 : tie.Need-enum-told-13
+enum-told-13 c = search needs
+
+three-requires-16 : tie.Need-three-requires-16
+three-requires-16 c κs = search needs
+
+returns-18 : tie.Need-returns-18
+returns-18 c = search (needs, row)
+
+enum-told-14 : tie.Need-enum-told-14
+enum-told-14 c = search needs
+
+three-requires-17 : tie.Need-three-requires-17
+three-requires-17 c κs = search needs
+
+returns-19 : tie.Need-returns-19
+returns-19 c = search (needs, row)
+
 pub registers-of-spec : {M : Type 1} → statement M
 registers-of-spec =
     tie.close
@@ -215,6 +233,10 @@ registers-of-spec =
     three-requires-14
     enum-told-12
     three-requires-15
+    enum-told-13
+    three-requires-16
+    enum-told-14
+    three-requires-17
     returns
     returns-2
     returns-3
@@ -231,4 +253,6 @@ registers-of-spec =
     returns-14
     returns-15
     returns-16
-    returns-17)
+    returns-17
+    returns-18
+    returns-19)

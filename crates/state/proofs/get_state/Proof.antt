@@ -1,56 +1,42 @@
--- By the target (`get-turned`, `get-found`).
-use Rattle.store.proofs.Small.{small-sound}
-use Rattle.admission.proofs.Targets.{held-size, held-room}
-use Rattle.state.proofs.Buffers.{get-room, get-turned, get-found}
+-- By bit 1.
+use Rattle.state.proofs.HandOvers.{got-taken, got-elements}
 use borrow.Author.Needs.{needs}
 use Rattle.state.proofs.get_state.Statement.{statement}
 use Rattle.state.proofs.get_state.Tie as tie
 
-small-layout-requires : tie.Need-small-layout-requires
-small-layout-requires c κs = search needs
-
-is-wide-requires : tie.Need-is-wide-requires
-is-wide-requires c κs = search needs
-
-small-target-requires : tie.Need-small-target-requires
-small-target-requires c κs = search needs
-
-enum-known-target : tie.Need-enum-known-target
-enum-known-target c = search needs
-
-refusal-requires : tie.Need-refusal-requires
-refusal-requires c κs = search needs
-
-enum-known-target-2 : tie.Need-enum-known-target-2
-enum-known-target-2 c = search needs
-
-get-use-requires : tie.Need-get-use-requires
-get-use-requires c κs = search needs
-
-get-at-requires : tie.Need-get-at-requires
-get-at-requires c κs = (search (needs, small-sound), search (needs, held-size), search (needs, get-room, held-room))
-
-returns : tie.Need-returns
-returns c = search (needs, get-turned)
+take-vcpu-requires : tie.Need-take-vcpu-requires
+take-vcpu-requires c κs = search needs
 
 same-length : tie.Need-same-length
 same-length c = search needs
 
+same-length-2 : tie.Need-same-length-2
+same-length-2 c = search needs
+
+returns : tie.Need-returns
+returns c = search (needs, got-taken)
+
+get-elements-requires : tie.Need-get-elements-requires
+get-elements-requires c κs = search needs
+
+same-length-3 : tie.Need-same-length-3
+same-length-3 c = search needs
+
+same-length-4 : tie.Need-same-length-4
+same-length-4 c = search needs
+
 returns-2 : tie.Need-returns-2
-returns-2 c = search (needs, get-found)
+returns-2 c = search (needs, got-elements)
 
 pub get-state-spec : {M : Type 1} → statement M
 get-state-spec =
     tie.close
     (tie.spec
-    small-layout-requires
-    is-wide-requires
-    small-target-requires
-    enum-known-target
-    refusal-requires
-    enum-known-target-2
-    get-use-requires
-    get-at-requires
-    returns
+    take-vcpu-requires
     same-length
+    same-length-2
+    returns
+    get-elements-requires
+    same-length-3
+    same-length-4
     returns-2)

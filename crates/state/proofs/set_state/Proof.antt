@@ -1,60 +1,28 @@
--- By the target (`set-turned`, `set-found`).
-use Rattle.store.proofs.Small.{small-sound}
-use Rattle.admission.proofs.Targets.{held-size, held-room}
-use Rattle.state.proofs.Buffers.{set-room, set-turned, set-found}
+-- By bit 1.
+use Rattle.state.proofs.HandOvers.{set-by-giving, set-by-elements}
 use borrow.Author.Needs.{needs}
 use Rattle.state.proofs.set_state.Statement.{statement}
 use Rattle.state.proofs.set_state.Tie as tie
 
-small-layout-requires : tie.Need-small-layout-requires
-small-layout-requires c κs = search needs
-
-is-wide-requires : tie.Need-is-wide-requires
-is-wide-requires c κs = search needs
-
-small-target-requires : tie.Need-small-target-requires
-small-target-requires c κs = search needs
-
-enum-known-target : tie.Need-enum-known-target
-enum-known-target c = search needs
-
-refusal-requires : tie.Need-refusal-requires
-refusal-requires c κs = search needs
-
-enum-known-target-2 : tie.Need-enum-known-target-2
-enum-known-target-2 c = search needs
-
-set-use-requires : tie.Need-set-use-requires
-set-use-requires c κs = search needs
-
-set-at-requires : tie.Need-set-at-requires
-set-at-requires c κs = (search (needs, small-sound), search (needs, held-size), search (needs, set-room, held-room))
+give-vcpu-requires : tie.Need-give-vcpu-requires
+give-vcpu-requires c κs = search needs
 
 same-length : tie.Need-same-length
 same-length c = search needs
 
 returns : tie.Need-returns
-returns c = search (needs, set-turned)
+returns c = search (needs, set-by-giving)
+
+set-elements-requires : tie.Need-set-elements-requires
+set-elements-requires c κs = search needs
 
 same-length-2 : tie.Need-same-length-2
 same-length-2 c = search needs
 
 returns-2 : tie.Need-returns-2
-returns-2 c = search (needs, set-found)
+returns-2 c = search (needs, set-by-elements)
 
 pub set-state-spec : {M : Type 1} → statement M
 set-state-spec =
     tie.close
-    (tie.spec
-    small-layout-requires
-    is-wide-requires
-    small-target-requires
-    enum-known-target
-    refusal-requires
-    enum-known-target-2
-    set-use-requires
-    set-at-requires
-    same-length
-    returns
-    same-length-2
-    returns-2)
+    (tie.spec give-vcpu-requires same-length returns set-elements-requires same-length-2 returns-2)

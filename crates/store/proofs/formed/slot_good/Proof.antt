@@ -7,6 +7,9 @@ use Rattle.store.proofs.formed.slot_good.Tie as tie
 slot-word-requires : tie.Need-slot-word-requires
 slot-word-requires c κs = search needs
 
+is-taken-requires : tie.Need-is-taken-requires
+is-taken-requires c κs = search needs
+
 returns : tie.Need-returns
 returns c = search (needs, slot-zero)
 
@@ -33,6 +36,7 @@ slot-good-spec =
     tie.close
     (tie.spec
     slot-word-requires
+    is-taken-requires
     returns
     returns-2
     sub-is-live

@@ -16,8 +16,8 @@ same-length c = search needs
 returns : tie.Need-returns
 returns c = search (needs, drop-not)
 
-put-word-requires : tie.Need-put-word-requires
-put-word-requires c κs = search needs
+empty-slot-requires : tie.Need-empty-slot-requires
+empty-slot-requires c κs = search needs
 
 same-length-2 : tie.Need-same-length-2
 same-length-2 c = search needs
@@ -33,6 +33,6 @@ drop-word-spec =
     add-if1
     same-length
     returns
-    put-word-requires
+    empty-slot-requires
     same-length-2
     returns-2)

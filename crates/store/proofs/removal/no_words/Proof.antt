@@ -1,4 +1,4 @@
--- The loop has cleared the words of the slots before a.
+-- The loop has cleared the words and the marks of the slots before a.
 use Rattle.store.specs.Store.{noWords}
 use Rattle.store.proofs.Writes.{words-none, words-more, words-all}
 use Prim.Native.Nat.{_-_, _≤_}
@@ -17,8 +17,8 @@ abbrev μ-loop : tie.MeasureT-loop
 loop-holds : tie.Need-loop-holds Inv-loop μ-loop
 loop-holds c = (search needs, refl, words-none _ _)
 
-put-word-requires : tie.Need-put-word-requires Inv-loop μ-loop
-put-word-requires c κs = search needs
+empty-slot-requires : tie.Need-empty-slot-requires Inv-loop μ-loop
+empty-slot-requires c κs = search needs
 
 add-a : tie.Need-add-a Inv-loop μ-loop
 add-a c = search needs
@@ -42,7 +42,7 @@ no-words-spec =
     Inv-loop
     μ-loop
     loop-holds
-    put-word-requires
+    empty-slot-requires
     add-a
     loop-less
     loop-again

@@ -1,8 +1,11 @@
--- The slot word, then the values: `vcpu-made`.
+-- The mark, the slot word, then the values: `vcpu-made`.
 use Rattle.store.proofs.Writes.{vcpu-made}
 use borrow.Author.Needs.{needs}
 use Rattle.store.proofs.update.with_vcpu.Statement.{statement}
 use Rattle.store.proofs.update.with_vcpu.Tie as tie
+
+set-taken-requires : tie.Need-set-taken-requires
+set-taken-requires c κs = search needs
 
 add-put-word : tie.Need-add-put-word
 add-put-word c = search needs
@@ -32,6 +35,7 @@ pub with-vcpu-spec : {M : Type 1} → statement M
 with-vcpu-spec =
     tie.close
     (tie.spec
+    set-taken-requires
     add-put-word
     mul-put-word
     add-put-word-2

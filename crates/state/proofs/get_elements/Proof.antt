@@ -1,0 +1,60 @@
+-- By the target (`get-turned`, `get-found`).
+use Rattle.store.proofs.Small.{small-sound}
+use Rattle.admission.proofs.Targets.{held-size, held-room}
+use Rattle.state.proofs.Buffers.{get-room, get-turned, get-found}
+use borrow.Author.Needs.{needs}
+use Rattle.state.proofs.get_elements.Statement.{statement}
+use Rattle.state.proofs.get_elements.Tie as tie
+
+small-layout-requires : tie.Need-small-layout-requires
+small-layout-requires c κs = search needs
+
+is-wide-requires : tie.Need-is-wide-requires
+is-wide-requires c κs = search needs
+
+supported-bits-requires : tie.Need-supported-bits-requires
+supported-bits-requires c κs = search needs
+
+small-target-requires : tie.Need-small-target-requires
+small-target-requires c κs = search needs
+
+enum-known-target : tie.Need-enum-known-target
+enum-known-target c = search needs
+
+refusal-requires : tie.Need-refusal-requires
+refusal-requires c κs = search needs
+
+enum-known-target-2 : tie.Need-enum-known-target-2
+enum-known-target-2 c = search needs
+
+get-use-requires : tie.Need-get-use-requires
+get-use-requires c κs = search needs
+
+get-at-requires : tie.Need-get-at-requires
+get-at-requires c κs = (search (needs, small-sound), search (needs, held-size), search (needs, get-room, held-room))
+
+returns : tie.Need-returns
+returns c = search (needs, get-turned)
+
+same-length : tie.Need-same-length
+same-length c = search needs
+
+returns-2 : tie.Need-returns-2
+returns-2 c = search (needs, get-found)
+
+pub get-elements-spec : {M : Type 1} → statement M
+get-elements-spec =
+    tie.close
+    (tie.spec
+    small-layout-requires
+    is-wide-requires
+    supported-bits-requires
+    small-target-requires
+    enum-known-target
+    refusal-requires
+    enum-known-target-2
+    get-use-requires
+    get-at-requires
+    returns
+    same-length
+    returns-2)

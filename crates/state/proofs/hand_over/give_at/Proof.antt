@@ -1,0 +1,78 @@
+-- By the mark, the length, and whether a form was given (`give-..`).
+use Rattle.state.proofs.HandOvers.{in-range, give-here, give-length, give-form, give-done}
+use borrow.Author.Needs.{needs}
+use Rattle.state.proofs.hand_over.give_at.Statement.{statement}
+use Rattle.state.proofs.hand_over.give_at.Tie as tie
+
+is-taken-requires : tie.Need-is-taken-requires
+is-taken-requires c κs = search needs
+
+refusal-requires : tie.Need-refusal-requires
+refusal-requires c κs = search needs
+
+same-length : tie.Need-same-length
+same-length c = search needs
+
+returns : tie.Need-returns
+returns c = search (needs, give-here)
+
+out-of-range-requires : tie.Need-out-of-range-requires
+out-of-range-requires c κs = search needs
+
+refusal-requires-2 : tie.Need-refusal-requires-2
+refusal-requires-2 c κs = search needs
+
+same-length-2 : tie.Need-same-length-2
+same-length-2 c = search needs
+
+returns-2 : tie.Need-returns-2
+returns-2 c = search (needs, give-length)
+
+slot-at-requires : tie.Need-slot-at-requires
+slot-at-requires c κs = search needs
+
+give-requires : tie.Need-give-requires
+give-requires c κs = (search needs, search needs, search (needs, in-range))
+
+refusal-requires-3 : tie.Need-refusal-requires-3
+refusal-requires-3 c κs = search needs
+
+same-length-3 : tie.Need-same-length-3
+same-length-3 c = search needs
+
+returns-3 : tie.Need-returns-3
+returns-3 c = search (needs, give-form)
+
+set-taken-requires : tie.Need-set-taken-requires
+set-taken-requires c κs = search needs
+
+success-requires : tie.Need-success-requires
+success-requires c κs = search needs
+
+same-length-4 : tie.Need-same-length-4
+same-length-4 c = search needs
+
+returns-4 : tie.Need-returns-4
+returns-4 c = search (needs, give-done)
+
+pub give-at-spec : {M : Type 1} → statement M
+give-at-spec =
+    tie.close
+    (tie.spec
+    is-taken-requires
+    refusal-requires
+    same-length
+    returns
+    out-of-range-requires
+    refusal-requires-2
+    same-length-2
+    returns-2
+    slot-at-requires
+    give-requires
+    refusal-requires-3
+    same-length-3
+    returns-3
+    set-taken-requires
+    success-requires
+    same-length-4
+    returns-4)
