@@ -7,5 +7,6 @@ pub mod Sent
 pub mod Returned
 pub mod Running
 pub mod Marking
+pub mod Masks
 pub mod Words
 mod Clearing

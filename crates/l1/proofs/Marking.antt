@@ -1,26 +1,26 @@
 -- The marks of a cache and its test, in the form of the code's needs. Assumes nothing.
 use mathlib.Core.Path.{_≡_, refl, sym, ap, ap₂, _∙_}
 use mathlib.Core.Bool.{Bool, true, false, not, _&&_, _||_, cond}
-use mathlib.Core.List.{List, []}
-use Prim.Native.Nat.{ℕ, _+_, _-_, _*_, _%_, _^_, _≤_, _<_}
+use mathlib.Core.List.{List, [], _∷_}
+use Prim.Native.Nat.{ℕ, zero, suc, _+_, _-_, _*_, _%_, _^_, _≤_, _<_}
 use native.Mathlib.Nat.{one-mul}
 use native.Mathlib.Decide.{decLt}
 use native.Mathlib.Omega.{arith}
 use lib.Dec.{lit<, eqb, ltb}
-use lib.ListN.{length}
+use lib.Bits.{bitAnd, bitOr}
+use lib.ListN.{length, getD}
 use lib.Pow.{shl-exact}
-use borrow.Author.Tests.{eq-eqb, ne-eqb, eqb-true, lt-ltb, le-ltb, lt-leb, le-leb, not-true, not-false}
+use borrow.Author.Tests.{eq-eqb, ne-eqb, eqb-true, lt-leb, le-leb, not-false}
 use Rattle.rules.specs.declared.Usage.{Usage}
 use Rattle.rules.specs.declared.Usage.the-variants.{ThreadGet, RunInput}
-use Rattle.elements.specs.declared.Element.{Element}
 use Rattle.elements.specs.declared.Kind.{Kind}
-use Rattle.elements.specs.Table.{kindOf, threadElement}
-use Rattle.rules.specs.Rules.{between, permits}
+use Rattle.elements.specs.Table.{table, below, position, sourceOf, find, kindOf, numbered, threadElement}
+use Rattle.rules.specs.Rules.{between, allows, permits}
 use Rattle.store.specs.Layout.{slotBytes}
 use Rattle.store.specs.Search.{every}
-use Rattle.store.proofs.Loops.{every-past, every-out, every-end}
-use Rattle.store.proofs.Search.{both}
-use Rattle.l1.specs.Marks.{Cache, isMarked, valid, changed, allowed, isInput, isReadable, markGood, goodCache}
+use Rattle.store.proofs.Search.{both, every-ext}
+use Rattle.l1.specs.Marks.{Cache, valid, changed, allowed, isInput, isReadable, markGood, goodCache}
+use Rattle.l1.proofs.Masks.{mask, mask-and, mask-or, mask-not, mask-none, every-append, valid-mask, changed-mask}
 
 pub one-shifted : (k : ℕ) → k < 64 → 1 * 2 ^ k % 2 ^ 64 ≡ 2 ^ k
 one-shifted k h = shl-exact 1 k 64 (lit< tt) (omega arith) ∙ one-mul (2 ^ k)
@@ -62,26 +62,69 @@ module _ (id : ℕ) where
               let b : 0x0C01 < id = omega arith in
               simp (ne-eqb _ _ n, le-leb _ _ a, lt-leb _ _ b)
 
--- ---- one number of the test
-module _ (c : Cache) (e : ℕ) (v ch : Bool) (pv : v ≡ isMarked (c .marks) e) (pc : ch ≡ isMarked (c .marks) (192 + e)) where
-  mark-as : (b : Bool) → ltb e 170 ≡ b → markGood c e ≡ cond b (not ch || (v && isInput (threadElement e .id))) (not v && not ch)
+-- ---- the masks: mark e is of an element, and of one that is permitted in a run input
+abbrev isElement : ℕ → Bool
+isElement e = ltb e 170
+
+abbrev isInputElement : ℕ → Bool
+isInputElement e = isElement e && isInput (threadElement e .id)
+
+abbrev elementWords : List ℕ
+elementWords = 0xFFFFFFFFFFFFFFFF ∷ 0xFFFFFFFFFFFFFFFF ∷ 0xFFFFFFFFFFC00000 ∷ []
+
+abbrev inputWords : List ℕ
+inputWords = 0x3FFFFFFFFFFFFFFF ∷ 0xFFFFFFFFFFFFFFFF ∷ 0xFFFFFFFFFC000000 ∷ []
+
+-- the code's words are those of the list: its 192 marks, computed
+masks-listed : (k : ℕ) → k < 3 → (getD elementWords k 0 ≡ mask isElement 64 (64 * k)) × (getD inputWords k 0 ≡ mask isInputElement 64 (64 * k))
+unfolding mask isInput permits allows kindOf find table sourceOf position below threadElement numbered
+masks-listed zero h = (refl, refl)
+masks-listed (suc zero) h = (refl, refl)
+masks-listed (suc (suc zero)) h = (refl, refl)
+masks-listed (suc (suc (suc k))) h = absurd (omega arith)
+
+-- ---- the 64 marks of a word
+module _ (m : List ℕ) (k : ℕ) (h : k < 3) where
+  abbrev c : Cache
+  c = record { values = []; marks = m }
+
+  abbrev tested : ℕ → ℕ → ℕ → ℕ → ℕ
+  tested v w s t = bitOr (bitAnd v (2 ^ 64 - 1 - s)) (bitAnd w (2 ^ 64 - 1 - bitAnd v t))
+
+  abbrev isBad : ℕ → Bool
+  isBad e = (valid c e && not (isElement e)) || (changed c e && not (valid c e && isInputElement e))
+
+  bad-mask : tested (mask (valid c) 64 (64 * k)) (mask (changed c) 64 (64 * k)) (mask isElement 64 (64 * k)) (mask isInputElement 64 (64 * k)) ≡ mask isBad 64 (64 * k)
+  bad-mask =
+      let i = 64 * k in
+      ap₂ bitOr
+      (ap (bitAnd (mask (valid c) 64 i)) (mask-not isElement 64 i) ∙ mask-and (valid c) (λ e. not (isElement e)) 64 i)
+      (ap (λ (n : ℕ). bitAnd (mask (changed c) 64 i) (2 ^ 64 - 1 - n)) (mask-and (valid c) isInputElement 64 i)
+      ∙ ap (bitAnd (mask (changed c) 64 i)) (mask-not (λ e. valid c e && isInputElement e) 64 i)
+      ∙ mask-and (changed c) (λ e. not (valid c e && isInputElement e)) 64 i)
+      ∙ mask-or (λ e. valid c e && not (isElement e)) (λ e. changed c e && not (valid c e && isInputElement e)) 64 i
+
+  mark-as : (e : ℕ) → not (isBad e) ≡ markGood c e
   unfolding markGood
-  mark-as b q =
-      ap (λ (t : Bool). cond t (not (changed c e) || (valid c e && isInput (threadElement e .id))) (not (valid c e) && not (changed c e))) q
-      ∙ ap₂ (λ (x y : Bool). cond b (not y || (x && isInput (threadElement e .id))) (not x && not y)) (sym pv) (sym pc)
+  mark-as e = by (isElement e) (valid c e) (changed c e) (isInput (threadElement e .id))
+    where
+      by : (el v ch i : Bool) → not ((v && not el) || (ch && not (v && (el && i)))) ≡ cond el (not ch || (v && i)) (not v && not ch)
+      by true true true true = refl
+      by true true true false = refl
+      by true true false i = refl
+      by true false true i = refl
+      by true false false i = refl
+      by false true ch i = refl
+      by false false true i = refl
+      by false false false i = refl
 
-  pub mark-past : 170 ≤ e → not v && not ch ≡ markGood c e
-  mark-past h = sym (mark-as false (le-ltb _ _ h))
+  pub word-tells : getD m k 0 < 2 ^ 64 → getD m (3 + k) 0 < 2 ^ 64 → eqb (tested (getD m k 0) (getD m (3 + k) 0) (getD elementWords k 0) (getD inputWords k 0)) 0 ≡ every (markGood c) 64 (64 * k)
+  word-tells hv hw =
+      ap₂ (λ (s t : ℕ). eqb (tested (getD m k 0) (getD m (3 + k) 0) s t) 0) (masks-listed k h .0) (masks-listed k h .1)
+      ∙ ap₂ (λ (v w : ℕ). eqb (tested v w (mask isElement 64 (64 * k)) (mask isInputElement 64 (64 * k))) 0) (sym (valid-mask m k hv)) (sym (changed-mask m k hw))
+      ∙ ap (λ (n : ℕ). eqb n 0) bad-mask ∙ mask-none isBad 64 (64 * k) ∙ every-ext (λ e. not (isBad e)) (markGood c) 64 (64 * k) (λ e a b. mark-as e)
 
-  module _ (h : e < 170) where
-    pub mark-still : not ch ≡ true → true ≡ markGood c e
-    mark-still n = sym (mark-as true (lt-ltb _ _ h) ∙ ap (λ (t : Bool). t || (v && isInput (threadElement e .id))) n)
-
-    pub mark-changed : not ch ≡ false → (x : Element) → x ≡ threadElement e → (i : Bool) → i ≡ isInput (x .id) → v && i ≡ markGood c e
-    mark-changed n x q i p =
-        ap (λ (t : Bool). v && t) (p ∙ ap (λ (y : Element). isInput (y .id)) q) ∙ sym (mark-as true (lt-ltb _ _ h) ∙ ap (λ (t : Bool). t || (v && isInput (threadElement e .id))) n)
-
--- ---- the loop over them
+-- ---- the three words
 module _ (c : Cache) where
   good-as : (a b : Bool) → eqb (length (c .values)) slotBytes ≡ a → eqb (length (c .marks)) 6 ≡ b → goodCache c ≡ a && (b && every (markGood c) 192 0)
   unfolding goodCache
@@ -94,23 +137,21 @@ module _ (c : Cache) where
     pub good-marks : (length (c .marks) ≡ 6 → ⊥) → false ≡ goodCache c
     good-marks n = sym (good-as true false (eq-eqb _ _ hv) (ne-eqb _ _ n))
 
-    pub good-start : length (c .marks) ≡ 6 → goodCache c ≡ every (markGood c) (192 - 0) 0
-    good-start hm = good-as true true (eq-eqb _ _ hv) (eq-eqb _ _ hm)
+    -- a mark is good by the words alone
+    mark-same : (e : ℕ) → markGood (record { values = []; marks = c .marks }) e ≡ markGood c e
+    unfolding markGood
+    mark-same e = refl
 
-  -- a mark is good by the words alone
-  mark-same : (e : ℕ) → markGood (record { values = []; marks = c .marks }) e ≡ markGood c e
-  unfolding markGood
-  mark-same e = refl
-
-  module _ (f : Bool) (e : ℕ) (h : f ≡ every (markGood c) (192 - e) e) where
-    pub good-bad : (x : Bool) → e < 192 → x ≡ markGood (record { values = []; marks = c .marks }) e → not x ≡ true → false ≡ f
-    good-bad x k p q = sym (h ∙ every-out (markGood c) 192 e k (sym (p ∙ mark-same e) ∙ not-true x q))
-
-    pub good-turn : (x : Bool) → e < 192 → x ≡ markGood (record { values = []; marks = c .marks }) e → not x ≡ false → f ≡ every (markGood c) (192 - (e + 1)) (e + 1)
-    good-turn x k p q = h ∙ every-past (markGood c) 192 e k (sym (p ∙ mark-same e) ∙ not-false x q)
-
-    pub good-end : 192 ≤ e → true ≡ f
-    good-end k = sym (h ∙ every-end (markGood c) 192 e k)
+    pub good-words : length (c .marks) ≡ 6 → (x y z : Bool)
+        → x ≡ every (markGood (record { values = []; marks = c .marks })) 64 (64 * 0)
+        → y ≡ every (markGood (record { values = []; marks = c .marks })) 64 (64 * 1)
+        → z ≡ every (markGood (record { values = []; marks = c .marks })) 64 (64 * 2)
+        → (x && y) && z ≡ goodCache c
+    good-words hm x y z ex ey ez =
+        let p = markGood (record { values = []; marks = c .marks }) in
+        ap₂ (λ (a b : Bool). a && b) (ap₂ (λ (a b : Bool). a && b) ex ey ∙ sym (every-append p 64 64 0)) ez
+        ∙ sym (every-append p 128 64 0) ∙ every-ext p (markGood c) 192 0 (λ e a b. mark-same e)
+        ∙ sym (good-as true true (eq-eqb _ _ hv) (eq-eqb _ _ hm))
 
 -- ---- what it says of the lengths
 module _ (vs ms : List ℕ) (x : Bool) (e : x ≡ goodCache (record { values = vs; marks = ms })) (n : not x ≡ false) where

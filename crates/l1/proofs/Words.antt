@@ -1,23 +1,24 @@
 -- Marks by words: the first mark that is left in a word is its leading zeros, and a word's marks are counted by its ones. Assumes nothing.
-use mathlib.Core.Path.{_≡_, refl, sym, ap, ap₂, _∙_, subst}
+use mathlib.Core.Path.{_≡_, sym, ap, ap₂, _∙_}
 use mathlib.Core.Bool.{Bool, false, cond}
 use mathlib.Core.Logic.{_⊎_, inl, inr}
 use mathlib.Core.List.{List}
 use Prim.Native.Nat.{ℕ, zero, suc, _+_, _-_, _*_, _/_, _%_, _^_, _≤_, _<_}
-use native.Mathlib.Nat.{mod-lt, div-eq-of-lt, eq-zero-or-pos, pow-suc, div-one}
+use native.Mathlib.Nat.{mod-lt, div-eq-of-lt, eq-zero-or-pos, pow-suc}
 use native.Mathlib.Numerals.{add-one}
 use native.Mathlib.Decide.{decLt}
 use native.Mathlib.Omega.{arith}
 use lib.Dec.{eqb, lit<}
-use lib.Pow.{pow-pos, pow-mono, high, field, mod-mod-pow, ones-split, ones-lt, shr-lt, shr-shr}
+use lib.Pow.{pow-pos, pow-mono, high, field, mod-mod-pow, ones-split, ones-lt}
 use lib.Bits.{bitAnd, and-mask}
-use lib.Count.{leadingZeros, leading-le, leading-top, ones, ones-step, ones-le}
+use lib.Count.{leadingZeros, leading-le, leading-top, ones, ones-le}
 use lib.ListN.{getD}
 use borrow.Author.Tests.{eq-eqb}
 use Rattle.store.specs.Search.{first, tally}
 use Rattle.store.proofs.Search.{first-bounds, found-first, tally-ext}
 use Rattle.l1.specs.Marks.{isMarked}
 use Rattle.l1.specs.Private.{isChanged}
+use Rattle.l1.proofs.Masks.{ones-mask, changed-mask}
 
 -- digit j of a word of 64, from the most significant
 abbrev digit : ℕ → ℕ → ℕ
@@ -157,30 +158,6 @@ unfolding first
 next-end m i f e a b = let z : 384 - i ≡ 0 = omega arith in sym (e ∙ ap (λ (n : ℕ). first (isMarked m) n i) z)
 
 -- ---- the marks of a word, counted
-digits-ones : (k w : ℕ) → w < 2 ^ k → tally (λ e. eqb (w / 2 ^ (k - 1 - e) % 2) 1) k ≡ ones w
-unfolding tally ones
-digits-ones zero w h = let z : w ≡ 0 = omega arith in sym (ap ones z)
-digits-ones (suc k) w h =
-    ap₂ (λ (a b : ℕ). a + b) (tally-ext (λ e. eqb (w / 2 ^ (suc k - 1 - e) % 2) 1) (λ e. eqb (w / 2 / 2 ^ (k - 1 - e) % 2) 1) k (λ e l. ap (λ (n : ℕ). eqb (n % 2) 1) (halved e l)) ∙ digits-ones k (w / 2) (half (shr-lt k 1)))
-    lowest
-    ∙ omega arith ∙ sym (ones-step w)
-  where
-    halved : (e : ℕ) → e < k → w / 2 ^ (suc k - 1 - e) ≡ w / 2 / 2 ^ (k - 1 - e)
-    halved e l = let q : suc k - 1 - e ≡ 1 + (k - 1 - e) = omega arith in ap (λ (n : ℕ). w / 2 ^ n) q ∙ sym (shr-shr w 1 (k - 1 - e))
-
-    half : (w < 2 ^ (k + 1) → w / 2 ^ 1 < 2 ^ k) → w / 2 < 2 ^ k
-    half f = f (subst (λ (n : ℕ). w < 2 ^ n) (sym (add-one k)) h)
-
-    set : (d : ℕ) → d < 2 → cond (eqb d 1) 1 0 ≡ d
-    set zero l = refl
-    set (suc zero) l = refl
-    set (suc (suc d)) l = absurd (omega arith)
-
-    lowest : cond (eqb (w / 2 ^ (suc k - 1 - k) % 2) 1) 1 0 ≡ w % 2
-    lowest =
-        let q : suc k - 1 - k ≡ 0 = omega arith in
-        ap (λ (n : ℕ). cond (eqb (w / 2 ^ n % 2) 1) 1 0) q ∙ ap (λ (n : ℕ). cond (eqb (n % 2) 1) 1 0) (div-one w) ∙ set (w % 2) (mod-lt w (lit< tt))
-
 pub tally-append : (p : ℕ → Bool) (a b : ℕ) → tally p (a + b) ≡ tally p a + tally (λ e. p (a + e)) b
 unfolding tally
 tally-append p a zero = ap (tally p) (zero-right a) ∙ omega arith
@@ -192,22 +169,14 @@ tally-append p a (suc b) =
     let h = tally-append p a b in
     ap (tally p) e ∙ omega (arith, h)
 
-word-count : (m : List ℕ) (k : ℕ) → getD m (3 + k) 0 < 2 ^ 64 → k < 3 → tally (λ e. isChanged m (64 * k + e)) 64 ≡ ones (getD m (3 + k) 0)
-unfolding isMarked
-word-count m k h l =
-    tally-ext (λ e. isChanged m (64 * k + e)) (λ e. eqb (getD m (3 + k) 0 / 2 ^ (64 - 1 - e) % 2) 1) 64 (λ e b. same e b) ∙ digits-ones 64 (getD m (3 + k) 0) h
-  where
-    same : (e : ℕ) → e < 64 → isChanged m (64 * k + e) ≡ eqb (getD m (3 + k) 0 / 2 ^ (64 - 1 - e) % 2) 1
-    same e b =
-        let q : (192 + (64 * k + e)) / 64 ≡ 3 + k = omega arith in
-        let r : 63 - (192 + (64 * k + e)) % 64 ≡ 64 - 1 - e = omega arith in
-        ap₂ (λ (x y : ℕ). eqb (getD m x 0 / 2 ^ y % 2) 1) q r
+word-count : (m : List ℕ) (k : ℕ) → getD m (3 + k) 0 < 2 ^ 64 → tally (λ e. isChanged m (64 * k + e)) 64 ≡ ones (getD m (3 + k) 0)
+word-count m k h = sym (ones-mask (isChanged m) 64 (64 * k)) ∙ ap ones (changed-mask m k h)
 
 pub count-words : (m : List ℕ) → getD m 3 0 < 2 ^ 64 → getD m 4 0 < 2 ^ 64 → getD m 5 0 < 2 ^ 64 → ones (getD m 3 0) + ones (getD m 4 0) + ones (getD m 5 0) ≡ tally (isChanged m) 192
 count-words m a b c =
-    let x = word-count m 0 a (lit< tt) in
-    let y = word-count m 1 b (lit< tt) in
-    let z = word-count m 2 c (lit< tt) in
+    let x = word-count m 0 a in
+    let y = word-count m 1 b in
+    let z = word-count m 2 c in
     let u : tally (isChanged m) 192 ≡ tally (isChanged m) 128 + tally (λ e. isChanged m (64 * 2 + e)) 64 = tally-append (isChanged m) 128 64 in
     let v : tally (isChanged m) 128 ≡ tally (isChanged m) 64 + tally (λ e. isChanged m (64 * 1 + e)) 64 = tally-append (isChanged m) 64 64 in
     let w : tally (isChanged m) 64 ≡ tally (λ e. isChanged m (64 * 0 + e)) 64 = tally-ext (isChanged m) (λ e. isChanged m (64 * 0 + e)) 64 (λ e l. ap (isChanged m) (start e)) in

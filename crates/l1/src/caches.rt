@@ -1,15 +1,27 @@
 // Which elements go through the L1 cache, and whether a cache is well formed.
-use super::marks::is_marked;
 use elements::kind_of;
-use elements::thread_element;
 use rules::Context;
 use rules::Usage;
 use rules::permitted;
 ghost use mathlib.Core.Path.{_≡_};
 ghost use mathlib.Core.List.{[]};
-ghost use Prim.Native.Nat.{_<_};
+ghost use Prim.Native.Nat.{_*_, _<_};
 ghost use lib.ListN.{length};
+ghost use Rattle.store.specs.Search.{every};
 ghost use Rattle.l1.specs.Marks.{isInput, isReadable, markGood, goodCache, allowed};
+
+// Word k of the marks that stand for an element, 0 to 169, and of those whose element is permitted in a run input.
+const ELEMENTS: [u64; 3] = [
+    0xFFFF_FFFF_FFFF_FFFF,
+    0xFFFF_FFFF_FFFF_FFFF,
+    0xFFFF_FFFF_FFC0_0000,
+];
+
+const INPUTS: [u64; 3] = [
+    0x3FFF_FFFF_FFFF_FFFF,
+    0xFFFF_FFFF_FFFF_FFFF,
+    0xFFFF_FFFF_FC00_0000,
+];
 
 fn allowed(usage: Usage, id: u16) -> bool
     ensures { λ r. ⌜ r ≡ allowed usage id ⌝ }
@@ -45,19 +57,16 @@ pub fn is_readable(id: u16) -> bool
     allowed(Usage::ThreadGet, id)
 }
 
-fn mark_good(marks: &[u64], e: usize) -> bool
-    requires { ⌜ (length (now marks) ≡ 6) × (e < 192) ⌝ }
-    ensures { λ r. ⌜ r ≡ markGood (record { values = []; marks = now (marks .entry) }) e ⌝ }
+// The 64 marks of word k, valid and changed, at once: every write, read and run judges all 192.
+fn word_good(marks: &[u64], k: usize) -> bool
+    requires { ⌜ (length (now marks) ≡ 6) × (k < 3) ⌝ }
+    ensures { λ r. ⌜ r ≡ every (markGood (record { values = []; marks = now (marks .entry) })) 64 (64 * k) ⌝ }
 {
-    let valid = is_marked(marks, e);
-    let changed = is_marked(marks, 192 + e);
-    if 170 <= e {
-        return !valid & !changed;
-    }
-    if !changed {
-        return true;
-    }
-    valid & is_input(thread_element(e).id)
+    let valid = marks[k];
+    let changed = marks[3 + k];
+    let beyond = valid & !ELEMENTS[k];
+    let unfit = changed & !(valid & INPUTS[k]);
+    beyond | unfit == 0
 }
 
 pub fn good_cache(values: &[u8], marks: &[u64]) -> bool
@@ -69,12 +78,5 @@ pub fn good_cache(values: &[u8], marks: &[u64]) -> bool
     if marks.len() != 6 {
         return false;
     }
-    let mut e = 0;
-    while e < 192 {
-        if !mark_good(marks, e) {
-            return false;
-        }
-        e += 1;
-    }
-    true
+    word_good(marks, 0) & word_good(marks, 1) & word_good(marks, 2)
 }
