@@ -3,3 +3,4 @@ pub mod Ranges
 pub mod Registers
 pub mod Private
 pub mod Right
+pub mod Later
