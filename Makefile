@@ -22,15 +22,13 @@ scoring = $(addprefix bench/,account.c cover.c csv.c figures.c judge.c order.c p
     text.c vendor.c watch.c window.c)
 
 .PHONY: all bench run score speed counts figures listing test install uninstall clean tools help
-.PHONY: browser compiler kit vendors
+.PHONY: browser compiler kit
 .DELETE_ON_ERROR:
 .PRECIOUS: $(bench)/vendor-%.c
 
 all: $(archive) ## prove the library and build target/staticlib/libadderknot.a
 
-bench: $(programs) vendors ## build the C programs, and vendors' libraries to try the score on
-
-vendors: $(vendors)
+bench: $(programs) $(vendors) ## build the C programs, and vendors' libraries to try the score on
 
 run: $(bench)/compare ## compare the library with the model, on two million calls
 	$(bench)/compare $(ARGS)
