@@ -26,9 +26,10 @@ fn take_one(store: &[u8], from: usize, n: usize, buffer: &mut [u8], run: Run) ->
     ensures { λ r. ⌜ (r ≡ onward run (bytesAt (now (store .entry)) from n)) × (now (buffer .exit) ≡ put (now (buffer .entry)) (run .at) (kept (bytesAt (now (store .entry)) from n))) ⌝ }
 {
     if is_zero(store, from, n) {
+        let word = run.word * 2;
         return Run {
             at: run.at,
-            word: run.word * 2,
+            word: word,
         };
     }
     copy(store, from, buffer, run.at, n);

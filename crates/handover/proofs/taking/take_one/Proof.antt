@@ -7,8 +7,8 @@ use Rattle.handover.proofs.taking.take_one.Tie as tie
 is-zero-requires : tie.Need-is-zero-requires
 is-zero-requires c κs = search needs
 
-mul-t7 : tie.Need-mul-t7
-mul-t7 c = search needs
+mul-word : tie.Need-mul-word
+mul-word c = search needs
 
 returns : tie.Need-returns
 returns c = (search (needs, absent-run), search (needs, absent-kept))
@@ -36,7 +36,7 @@ take-one-spec =
     tie.close
     (tie.spec
     is-zero-requires
-    mul-t7
+    mul-word
     returns
     copy-requires
     add-t11
