@@ -73,23 +73,24 @@ fn codes_at(i: usize) -> [u16; 5]
     requires { ⌜ i < 16 ⌝ }
     ensures { λ r. ⌜ r ≡ codes (rangeAt i) ⌝ }
 {
+    let rows = ROWS;
     match i {
-        0 => ROWS[0],
-        1 => ROWS[1],
-        2 => ROWS[2],
-        3 => ROWS[3],
-        4 => ROWS[4],
-        5 => ROWS[5],
-        6 => ROWS[6],
-        7 => ROWS[7],
-        8 => ROWS[8],
-        9 => ROWS[9],
-        10 => ROWS[10],
-        11 => ROWS[11],
-        12 => ROWS[12],
-        13 => ROWS[13],
-        14 => ROWS[14],
-        _ => ROWS[15],
+        0 => rows[0],
+        1 => rows[1],
+        2 => rows[2],
+        3 => rows[3],
+        4 => rows[4],
+        5 => rows[5],
+        6 => rows[6],
+        7 => rows[7],
+        8 => rows[8],
+        9 => rows[9],
+        10 => rows[10],
+        11 => rows[11],
+        12 => rows[12],
+        13 => rows[13],
+        14 => rows[14],
+        _ => rows[15],
     }
 }
 

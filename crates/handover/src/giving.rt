@@ -104,8 +104,10 @@ fn give_first(store: &mut [u8], base: usize, b: &[u8], m: u64) -> usize
 {
     let x = m / 0x4000_0000_0000;
     let y = m % 0x4000_0000_0000;
-    let at = give_part(store, base, b, A.from, A.to, A.size, A.first, x, 24);
-    give_part(store, base, b, B.from, B.to, B.size, B.first, y, at)
+    let p = A;
+    let at = give_part(store, base, b, p.from, p.to, p.size, p.first, x, 24);
+    let p = B;
+    give_part(store, base, b, p.from, p.to, p.size, p.first, y, at)
 }
 
 fn give_second(store: &mut [u8], base: usize, b: &[u8], m: u64, at: usize) -> usize
@@ -115,9 +117,12 @@ fn give_second(store: &mut [u8], base: usize, b: &[u8], m: u64, at: usize) -> us
     let x = m / 0x200_0000;
     let y = m / 0x400 % 0x8000;
     let z = m % 0x400;
-    let at = give_part(store, base, b, C.from, C.to, C.size, C.first, x, at);
-    let at = give_part(store, base, b, D.from, D.to, D.size, D.first, y, at);
-    give_part(store, base, b, E.from, E.to, E.size, E.first, z, at)
+    let p = C;
+    let at = give_part(store, base, b, p.from, p.to, p.size, p.first, x, at);
+    let p = D;
+    let at = give_part(store, base, b, p.from, p.to, p.size, p.first, y, at);
+    let p = E;
+    give_part(store, base, b, p.from, p.to, p.size, p.first, z, at)
 }
 
 // The elements behind the vectors.
@@ -128,9 +133,12 @@ fn give_last(store: &mut [u8], base: usize, b: &[u8], m: u64, at: usize) -> usiz
     let x = m / 8;
     let y = m / 2 % 4;
     let z = m % 2;
-    let at = give_part(store, base, b, G.from, G.to, G.size, G.first, x, at);
-    let at = give_part(store, base, b, H.from, H.to, H.size, H.first, y, at);
-    give_part(store, base, b, I.from, I.to, I.size, I.first, z, at)
+    let p = G;
+    let at = give_part(store, base, b, p.from, p.to, p.size, p.first, x, at);
+    let p = H;
+    let at = give_part(store, base, b, p.from, p.to, p.size, p.first, y, at);
+    let p = I;
+    give_part(store, base, b, p.from, p.to, p.size, p.first, z, at)
 }
 
 fn give_third(store: &mut [u8], base: usize, b: &[u8], m: u64, at: usize) -> usize
@@ -139,7 +147,8 @@ fn give_third(store: &mut [u8], base: usize, b: &[u8], m: u64, at: usize) -> usi
 {
     let x = m / 16;
     let y = m % 16;
-    let at = give_part(store, base, b, F.from, F.to, F.size, F.first, x, at);
+    let p = F;
+    let at = give_part(store, base, b, p.from, p.to, p.size, p.first, x, at);
     give_last(store, base, b, y, at)
 }
 

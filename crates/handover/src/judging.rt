@@ -57,10 +57,12 @@ fn judge_first(b: &[u8], m: u64) -> Walked
 {
     let x = m / 0x4000_0000_0000;
     let y = m % 0x4000_0000_0000;
-    let Walked::Next(at) = judge_part(b, A.from, A.to, A.size, A.first, x, 24) else {
+    let p = A;
+    let Walked::Next(at) = judge_part(b, p.from, p.to, p.size, p.first, x, 24) else {
         return Walked::Bad;
     };
-    judge_part(b, B.from, B.to, B.size, B.first, y, at)
+    let p = B;
+    judge_part(b, p.from, p.to, p.size, p.first, y, at)
 }
 
 fn judge_second(b: &[u8], m: u64, at: usize) -> Walked
@@ -70,13 +72,16 @@ fn judge_second(b: &[u8], m: u64, at: usize) -> Walked
     let x = m / 0x200_0000;
     let y = m / 0x400 % 0x8000;
     let z = m % 0x400;
-    let Walked::Next(at) = judge_part(b, C.from, C.to, C.size, C.first, x, at) else {
+    let p = C;
+    let Walked::Next(at) = judge_part(b, p.from, p.to, p.size, p.first, x, at) else {
         return Walked::Bad;
     };
-    let Walked::Next(at) = judge_part(b, D.from, D.to, D.size, D.first, y, at) else {
+    let p = D;
+    let Walked::Next(at) = judge_part(b, p.from, p.to, p.size, p.first, y, at) else {
         return Walked::Bad;
     };
-    judge_part(b, E.from, E.to, E.size, E.first, z, at)
+    let p = E;
+    judge_part(b, p.from, p.to, p.size, p.first, z, at)
 }
 
 // The elements behind the vectors.
@@ -87,13 +92,16 @@ fn judge_last(b: &[u8], m: u64, at: usize) -> Walked
     let x = m / 8;
     let y = m / 2 % 4;
     let z = m % 2;
-    let Walked::Next(at) = judge_part(b, G.from, G.to, G.size, G.first, x, at) else {
+    let p = G;
+    let Walked::Next(at) = judge_part(b, p.from, p.to, p.size, p.first, x, at) else {
         return Walked::Bad;
     };
-    let Walked::Next(at) = judge_part(b, H.from, H.to, H.size, H.first, y, at) else {
+    let p = H;
+    let Walked::Next(at) = judge_part(b, p.from, p.to, p.size, p.first, y, at) else {
         return Walked::Bad;
     };
-    judge_part(b, I.from, I.to, I.size, I.first, z, at)
+    let p = I;
+    judge_part(b, p.from, p.to, p.size, p.first, z, at)
 }
 
 fn judge_third(b: &[u8], m: u64, at: usize) -> Walked
@@ -102,7 +110,8 @@ fn judge_third(b: &[u8], m: u64, at: usize) -> Walked
 {
     let x = m / 16;
     let y = m % 16;
-    let Walked::Next(at) = judge_part(b, F.from, F.to, F.size, F.first, x, at) else {
+    let p = F;
+    let Walked::Next(at) = judge_part(b, p.from, p.to, p.size, p.first, x, at) else {
         return Walked::Bad;
     };
     judge_last(b, y, at)

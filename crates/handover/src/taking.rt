@@ -72,8 +72,10 @@ fn take_first(store: &[u8], base: usize, vcpu: u64, buffer: &mut [u8]) -> Run
         at: 24,
         word: 0x1000 + 2 * vcpu,
     };
-    let run = take_part(store, base, A.from, A.to, A.size, A.first, buffer, run);
-    take_part(store, base, B.from, B.to, B.size, B.first, buffer, run)
+    let p = A;
+    let run = take_part(store, base, p.from, p.to, p.size, p.first, buffer, run);
+    let p = B;
+    take_part(store, base, p.from, p.to, p.size, p.first, buffer, run)
 }
 
 fn take_second(store: &[u8], base: usize, buffer: &mut [u8], at: usize) -> Run
@@ -81,9 +83,12 @@ fn take_second(store: &[u8], base: usize, buffer: &mut [u8], at: usize) -> Run
     ensures { λ r. ⌜ Wrote (stateAt (now (store .entry)) base) 48 64 (record { at = at; word = 0 }) r (now (buffer .entry)) (now (buffer .exit)) ⌝ }
 {
     let run = Run { at: at, word: 0 };
-    let run = take_part(store, base, C.from, C.to, C.size, C.first, buffer, run);
-    let run = take_part(store, base, D.from, D.to, D.size, D.first, buffer, run);
-    take_part(store, base, E.from, E.to, E.size, E.first, buffer, run)
+    let p = C;
+    let run = take_part(store, base, p.from, p.to, p.size, p.first, buffer, run);
+    let p = D;
+    let run = take_part(store, base, p.from, p.to, p.size, p.first, buffer, run);
+    let p = E;
+    take_part(store, base, p.from, p.to, p.size, p.first, buffer, run)
 }
 
 // The elements behind the vectors.
@@ -91,9 +96,12 @@ fn take_last(store: &[u8], base: usize, buffer: &mut [u8], run: Run) -> Run
     requires { ⌜ (base + stateBytes ≤ length (now store)) × Room 166 170 run (length (now buffer)) ⌝ }
     ensures { λ r. ⌜ Wrote (stateAt (now (store .entry)) base) 166 4 run r (now (buffer .entry)) (now (buffer .exit)) ⌝ }
 {
-    let run = take_part(store, base, G.from, G.to, G.size, G.first, buffer, run);
-    let run = take_part(store, base, H.from, H.to, H.size, H.first, buffer, run);
-    take_part(store, base, I.from, I.to, I.size, I.first, buffer, run)
+    let p = G;
+    let run = take_part(store, base, p.from, p.to, p.size, p.first, buffer, run);
+    let p = H;
+    let run = take_part(store, base, p.from, p.to, p.size, p.first, buffer, run);
+    let p = I;
+    take_part(store, base, p.from, p.to, p.size, p.first, buffer, run)
 }
 
 fn take_third(store: &[u8], base: usize, buffer: &mut [u8], at: usize) -> Run
@@ -101,7 +109,8 @@ fn take_third(store: &[u8], base: usize, buffer: &mut [u8], at: usize) -> Run
     ensures { λ r. ⌜ Wrote (stateAt (now (store .entry)) base) 112 58 (record { at = at; word = 0 }) r (now (buffer .entry)) (now (buffer .exit)) ⌝ }
 {
     let run = Run { at: at, word: 0 };
-    let run = take_part(store, base, F.from, F.to, F.size, F.first, buffer, run);
+    let p = F;
+    let run = take_part(store, base, p.from, p.to, p.size, p.first, buffer, run);
     take_last(store, base, buffer, run)
 }
 

@@ -5,11 +5,11 @@ use Rattle.handover.proofs.Taken.{room-first, room-less, room-on, wrote
 use Rattle.handover.proofs.taking.take_first.Statement.{statement}
 use Rattle.handover.proofs.taking.take_first.Tie as tie
 
-mul-t7 : tie.Need-mul-t7
-mul-t7 c = search needs
+mul-t9 : tie.Need-mul-t9
+mul-t9 c = search needs
 
-add-t8 : tie.Need-add-t8
-add-t8 c = search needs
+add-t10 : tie.Need-add-t10
+add-t10 c = search needs
 
 take-part-requires : tie.Need-take-part-requires
 take-part-requires c κs = (part-a, search needs, search (needs, room-first, room-less 0 2 48))
@@ -25,4 +25,4 @@ returns c = search (needs, wrote-on 0 2 46)
 
 pub take-first-spec : {M : Type 1} → statement M
 take-first-spec =
-    tie.close (tie.spec mul-t7 add-t8 take-part-requires take-part-requires-2 same-length returns)
+    tie.close (tie.spec mul-t9 add-t10 take-part-requires take-part-requires-2 same-length returns)
