@@ -6,3 +6,4 @@ pub mod Ranges
 pub mod Scans
 pub mod Told
 pub mod RegisterLaws
+pub mod CellLaws

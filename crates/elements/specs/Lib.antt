@@ -4,3 +4,4 @@ pub mod Registers
 pub mod Private
 pub mod Right
 pub mod Later
+pub mod Cells

@@ -1,11 +1,14 @@
 // The elements of a guest state buffer: the one constant table, and the types in which it is told what an ID is.
 // `kinds` and `numbers` scan it, `registers` has the short way for nearly all IDs; the crate `rules` says what a call may do with an
 // element.
+mod cells;
 mod kinds;
 mod numbers;
 mod registers;
 mod rows;
 
+pub use cells::listed_cell;
+pub use cells::register_cell;
 pub use kinds::kind_of;
 pub use numbers::number_of;
 pub use numbers::thread_element;
@@ -61,6 +64,13 @@ pub struct Element {
 
 // A register: its size, 0 where an ID is none, and where its value lies in a slot's values.
 pub struct Register {
+    pub size: usize,
+    pub position: usize,
+}
+
+// A thread element by its ID: its number, its size, 0 where there is none, and where its value lies in a slot's values.
+pub struct Cell {
+    pub number: usize,
     pub size: usize,
     pub position: usize,
 }

@@ -10,3 +10,4 @@ pub mod Marking
 pub mod Masks
 pub mod Words
 mod Clearing
+pub mod Sizes

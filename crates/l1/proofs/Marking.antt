@@ -10,7 +10,7 @@ use lib.Dec.{lit<, eqb, ltb}
 use lib.Bits.{bitAnd, bitOr}
 use lib.ListN.{length, getD}
 use lib.Pow.{shl-exact}
-use borrow.Author.Tests.{eq-eqb, ne-eqb, eqb-true, lt-leb, le-leb, not-false}
+use borrow.Author.Tests.{eq-eqb, ne-eqb, eqb-true, lt-leb, le-leb, not-true, not-false}
 use Rattle.rules.specs.declared.Usage.{Usage}
 use Rattle.rules.specs.declared.Usage.the-variants.{ThreadGet, RunInput}
 use Rattle.elements.specs.declared.Kind.{Kind}
@@ -142,16 +142,30 @@ module _ (c : Cache) where
     unfolding markGood
     mark-same e = refl
 
-    pub good-words : length (c .marks) ≡ 6 → (x y z : Bool)
-        → x ≡ every (markGood (record { values = []; marks = c .marks })) 64 (64 * 0)
-        → y ≡ every (markGood (record { values = []; marks = c .marks })) 64 (64 * 1)
-        → z ≡ every (markGood (record { values = []; marks = c .marks })) 64 (64 * 2)
-        → (x && y) && z ≡ goodCache c
-    good-words hm x y z ex ey ez =
-        let p = markGood (record { values = []; marks = c .marks }) in
-        ap₂ (λ (a b : Bool). a && b) (ap₂ (λ (a b : Bool). a && b) ex ey ∙ sym (every-append p 64 64 0)) ez
-        ∙ sym (every-append p 128 64 0) ∙ every-ext p (markGood c) 192 0 (λ e a b. mark-same e)
-        ∙ sym (good-as true true (eq-eqb _ _ hv) (eq-eqb _ _ hm))
+    abbrev part : ℕ → Bool
+    part k = every (markGood (record { values = []; marks = c .marks })) 64 (64 * k)
+
+    module _ (hm : length (c .marks) ≡ 6) where
+      words : (part 0 && part 1) && part 2 ≡ goodCache c
+      words =
+          let p = markGood (record { values = []; marks = c .marks }) in
+          ap (λ (t : Bool). t && part 2) (sym (every-append p 64 64 0))
+          ∙ sym (every-append p 128 64 0) ∙ every-ext p (markGood c) 192 0 (λ e a b. mark-same e)
+          ∙ sym (good-as true true (eq-eqb _ _ hv) (eq-eqb _ _ hm))
+
+      module _ (x : Bool) (ex : x ≡ every (markGood (record { values = []; marks = c .marks })) 64 (64 * 0)) where
+        pub good-first : not x ≡ true → false ≡ goodCache c
+        good-first n = ap (λ (t : Bool). (t && part 1) && part 2) (sym (not-true x n) ∙ ex) ∙ words
+
+        module _ (n : not x ≡ false) (y : Bool) (ey : y ≡ every (markGood (record { values = []; marks = c .marks })) 64 (64 * 1)) where
+          beyond : (b : Bool) → y ≡ b → b && part 2 ≡ goodCache c
+          beyond b q = ap₂ (λ (s t : Bool). (s && t) && part 2) (sym (not-false x n) ∙ ex) (sym q ∙ ey) ∙ words
+
+          pub good-second : not y ≡ true → false ≡ goodCache c
+          good-second q = beyond false (not-true y q)
+
+          pub good-third : not y ≡ false → (z : Bool) → z ≡ every (markGood (record { values = []; marks = c .marks })) 64 (64 * 2) → z ≡ goodCache c
+          good-third q z ez = ez ∙ beyond true (not-false y q)
 
 -- ---- what it says of the lengths
 module _ (vs ms : List ℕ) (x : Bool) (e : x ≡ goodCache (record { values = vs; marks = ms })) (n : not x ≡ false) where

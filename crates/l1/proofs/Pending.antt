@@ -3,7 +3,7 @@
 use mathlib.Core.Path.{_≡_, refl, sym, ap, ap₂, _∙_}
 use mathlib.Core.Bool.{Bool, true, false, not, _&&_, _||_, cond}
 use mathlib.Core.List.{List, [], _∷_, _++_, append-nil}
-use Prim.Native.Nat.{ℕ, zero, suc, _+_, _-_, _*_, _^_, min, _≤_, _<_}
+use Prim.Native.Nat.{ℕ, zero, suc, _+_, _-_, _^_, min, _≤_, _<_}
 use native.Mathlib.Decide.{decLt}
 use native.Mathlib.Omega.{arith}
 use lib.Dec.{eqb, ltb}
@@ -20,9 +20,10 @@ use Rattle.exits.proofs.Written.{weigh-append, valued-append, length-valued}
 use Rattle.store.specs.Layout.{slotBytes}
 use Rattle.store.specs.Search.{every, first, tally}
 use Rattle.store.proofs.Search.{both, every-at, first-bounds, first-found, found-first, first-none}
+use Rattle.l1.specs.declared.Mark.{Mark}
 use Rattle.l1.specs.Marks.{Cache, isMarked, valid, changed, isInput, markGood, goodCache}
 use Rattle.l1.specs.Cache.{chosen, pending}
-use Rattle.l1.specs.Private.{isChanged}
+use Rattle.l1.specs.Private.{isChanged, behind, MarkFrom}
 use Rattle.l1.proofs.Marking.{values-long, marks-long}
 use Rattle.l1.proofs.Values.{number-inside, number-small, number-back}
 
@@ -38,6 +39,10 @@ chosen-skip p a (suc d) f =
 pub chosen-more : (p : ℕ → Bool) (n : ℕ) → p n ≡ true → chosen p (suc n) ≡ chosen p n ++ (threadElement n .id ∷ [])
 unfolding chosen
 chosen-more p n e = ap (λ (b : Bool). chosen p n ++ cond b (threadElement n .id ∷ []) []) e
+
+chosen-same : (p : ℕ → Bool) (n : ℕ) → p n ≡ false → chosen p (suc n) ≡ chosen p n
+unfolding chosen
+chosen-same p n e = ap (λ (b : Bool). chosen p n ++ cond b (threadElement n .id ∷ []) []) e ∙ append-nil (chosen p n)
 
 pub length-chosen : (p : ℕ → Bool) (n : ℕ) → length (chosen p n) ≡ tally p n
 unfolding chosen tally
@@ -55,6 +60,13 @@ weigh-one e h = omega (arith, ap (λ (x : Element). x .size) (number-back e h))
 weigh-next : (p : ℕ → Bool) (n : ℕ) → n < 170 → p n ≡ true → weigh (chosen p (suc n)) ≡ weigh (chosen p n) + 4 + threadElement n .size
 weigh-next p n h e = ap weigh (chosen-more p n e) ∙ weigh-append (chosen p n) (threadElement n .id ∷ []) ∙ omega (arith, weigh-one n h)
 
+pub weigh-more : (p : ℕ → Bool) (n : ℕ) → n < 170 → weigh (chosen p (suc n)) ≡ weigh (chosen p n) + cond (p n) (4 + threadElement n .size) 0
+weigh-more p n h = go (p n) refl
+  where
+    go : (b : Bool) → p n ≡ b → weigh (chosen p (suc n)) ≡ weigh (chosen p n) + cond b (4 + threadElement n .size) 0
+    go true e = omega (arith, weigh-next p n h e)
+    go false e = omega (arith, ap weigh (chosen-same p n e))
+
 weigh-past : (p : ℕ → Bool) (n : ℕ) → weigh (chosen p n) ≤ weigh (chosen p (suc n))
 unfolding chosen
 weigh-past p n = omega (arith, weigh-append (chosen p n) (cond (p n) (threadElement n .id ∷ []) []))
@@ -64,15 +76,6 @@ weigh-upto p a zero = let e : a ≡ a + 0 = omega arith in omega (arith, ap (λ 
 weigh-upto p a (suc d) =
     let e : suc (a + d) ≡ a + suc d = omega arith in
     omega (arith, weigh-upto p a d, weigh-past p (a + d), ap (λ (n : ℕ). weigh (chosen p n)) e)
-
-weigh-few : (p : ℕ → Bool) (n : ℕ) → n ≤ 170 → weigh (chosen p n) ≤ 28 * n
-unfolding weigh chosen
-weigh-few p zero h = omega arith
-weigh-few p (suc n) h = go (p n) refl (weigh-few p n (omega arith))
-  where
-    go : (b : Bool) → p n ≡ b → weigh (chosen p n) ≤ 28 * n → weigh (chosen p (suc n)) ≤ 28 * suc n
-    go true e k = omega (arith, k, weigh-next p n (omega arith) e, number-small n (omega arith))
-    go false e k = omega (arith, k, ap (λ (b : Bool). weigh (chosen p n ++ cond b (threadElement n .id ∷ []) [])) e, ap weigh (append-nil (chosen p n)))
 
 -- their values
 abbrev valueOf : List ℕ → ℕ → List ℕ
@@ -99,7 +102,7 @@ weighed vs p (suc n) l h = go (p n) refl (weighed vs p n l (omega arith))
         ap (λ (es : List (ℕ × List ℕ)). length (elementsBytes es)) (valued-more vs p n m e) ∙ length-more (valued 0 vs (chosen p n)) (threadElement n .id) (valueOf vs n)
         ∙ omega (arith, k, length-bytesAt vs (threadElement n .position) (threadElement n .size) (omega (arith, number-inside n m)), weigh-next p n m e)
     go false e k =
-        let q : chosen p (suc n) ≡ chosen p n = ap (λ (b : Bool). chosen p n ++ cond b (threadElement n .id ∷ []) []) e ∙ append-nil (chosen p n) in
+        let q = chosen-same p n e in
         ap (λ (ids : List ℕ). length (elementsBytes (valued 0 vs ids))) q ∙ k ∙ ap weigh (sym q)
 
 -- ---- from mark to mark
@@ -126,33 +129,40 @@ module _ (p : ℕ → Bool) (n f i : ℕ) (e : i ≡ first p n f) where
 abbrev pub reached : ℕ → ℕ
 reached i = min (i - 192) 170
 
-module _ (m : List ℕ) (f i : ℕ) (e : i ≡ first (isMarked m) (384 - f) f) (h : f ≤ 384) where
-  pub mark-here : i ≡ first (isMarked m) (384 - i) i
-  mark-here = let q : f + (384 - f) - i ≡ 384 - i = omega arith in first-again (isMarked m) (384 - f) f i e ∙ ap (λ (n : ℕ). first (isMarked m) n i) q
+-- the mark that a search found is the first from itself on
+pub mark-here : (m : List ℕ) (f : ℕ) (x : Mark) → MarkFrom m f x → x .at ≡ first (isMarked m) (384 - x .at) (x .at)
+mark-here m f x k =
+    let q : f + (384 - f) - x .at ≡ 384 - x .at = omega (arith, k .above, k .within) in
+    first-again (isMarked m) (384 - f) f (x .at) (k .at) ∙ ap (λ (n : ℕ). first (isMarked m) n (x .at)) q
 
-pub mark-next : (m : List ℕ) (i j : ℕ) → j ≡ first (isMarked m) (384 - (i + 1)) (i + 1) → i < 362 → j ≡ first (isMarked m) (384 - j) j
-mark-next m i j e h = mark-here m (i + 1) j e (omega arith)
+pub mark-left : (m : List ℕ) (f : ℕ) (x : Mark) → MarkFrom m f x → x .left ≡ behind m (x .at)
+mark-left m f x k = k .left
+
+pub mark-above : (m : List ℕ) (f n : ℕ) (x : Mark) → MarkFrom m f x → n ≤ f → n ≤ x .at
+mark-above m f n x k h = omega (arith, k .above)
+
+pub mark-within : (m : List ℕ) (f : ℕ) (x : Mark) → MarkFrom m f x → x .at ≤ 384
+mark-within m f x k = k .within
 
 -- none before the first mark
-pub chosen-none : (m : List ℕ) (i : ℕ) → i ≡ first (isMarked m) (384 - 192) 192 → chosen (isChanged m) (reached i) ≡ []
+pub chosen-none : (m : List ℕ) (x : Mark) → MarkFrom m 192 x → chosen (isChanged m) (reached (x .at)) ≡ []
 unfolding chosen
-chosen-none m i e =
-    let q : reached i ≡ 0 + reached i = omega arith in
-    ap (chosen (isChanged m)) q ∙ chosen-skip (isChanged m) 0 (reached i) (λ j a b. first-clear (isMarked m) 192 192 i e (192 + j) (omega arith) (omega arith))
+chosen-none m x k =
+    let q : reached (x .at) ≡ 0 + reached (x .at) = omega arith in
+    ap (chosen (isChanged m)) q ∙ chosen-skip (isChanged m) 0 (reached (x .at)) (λ j a b. first-clear (isMarked m) 192 192 (x .at) (k .at) (192 + j) (omega arith) (omega arith))
 
 -- the turn: one more
-module _ (m : List ℕ) (i j : ℕ) (low : 192 ≤ i) (high : i < 362) (e : i ≡ first (isMarked m) (384 - i) i) where
+module _ (m : List ℕ) (i : ℕ) (y : Mark) (low : 192 ≤ i) (high : i < 362) (e : i ≡ first (isMarked m) (384 - i) i) where
   marked-here : isChanged m (i - 192) ≡ true
   marked-here = let q : 192 + (i - 192) ≡ i = omega arith in ap (isMarked m) q ∙ first-has (isMarked m) (384 - i) i i e (omega arith)
 
   here : reached i ≡ i - 192
   here = omega arith
 
-  chosen-turn : j ≡ first (isMarked m) (384 - (i + 1)) (i + 1) → chosen (isChanged m) (reached j) ≡ chosen (isChanged m) (suc (i - 192))
+  chosen-turn : MarkFrom m (i + 1) y → chosen (isChanged m) (reached (y .at)) ≡ chosen (isChanged m) (suc (i - 192))
   chosen-turn k =
-      let a = first-bounds (isMarked m) (384 - (i + 1)) (i + 1) .0 in
-      let q : reached j ≡ suc (i - 192) + (reached j - suc (i - 192)) = omega arith in
-      ap (chosen (isChanged m)) q ∙ chosen-skip (isChanged m) (suc (i - 192)) (reached j - suc (i - 192)) (λ x y z. first-clear (isMarked m) (384 - (i + 1)) (i + 1) j k (192 + x) (omega arith) (omega arith))
+      let q : reached (y .at) ≡ suc (i - 192) + (reached (y .at) - suc (i - 192)) = omega (arith, k .above) in
+      ap (chosen (isChanged m)) q ∙ chosen-skip (isChanged m) (suc (i - 192)) (reached (y .at) - suc (i - 192)) (λ x a b. first-clear (isMarked m) (384 - (i + 1)) (i + 1) (y .at) (k .at) (192 + x) (omega arith) (omega arith))
 
   module _ (x : Element) (at : ℕ) (t : x ≡ threadElement (i - 192)) (w : at ≡ 4 + weigh (chosen (isChanged m) (reached i))) where
     same-size : x .size ≡ threadElement (i - 192) .size
@@ -161,7 +171,7 @@ module _ (m : List ℕ) (i j : ℕ) (low : 192 ≤ i) (high : i < 362) (e : i �
     next-weigh : at + 4 + x .size ≡ 4 + weigh (chosen (isChanged m) (suc (i - 192)))
     next-weigh = omega (arith, w, same-size, ap (λ (n : ℕ). weigh (chosen (isChanged m) n)) here, weigh-next (isChanged m) (i - 192) (omega arith) marked-here)
 
-    pub walk-at : (a : ℕ) → a ≡ at + 4 + x .size → j ≡ first (isMarked m) (384 - (i + 1)) (i + 1) → a ≡ 4 + weigh (chosen (isChanged m) (reached j))
+    pub walk-at : (a : ℕ) → a ≡ at + 4 + x .size → MarkFrom m (i + 1) y → a ≡ 4 + weigh (chosen (isChanged m) (reached (y .at)))
     walk-at a u k = u ∙ next-weigh ∙ ap (λ (ids : List ℕ). 4 + weigh ids) (sym (chosen-turn k))
 
     pub walk-room : (n l : ℕ) → rowBytes (chosen (isChanged m) 170) ≤ n → l ≡ n → at + 4 + x .size ≤ l
@@ -170,7 +180,7 @@ module _ (m : List ℕ) (i j : ℕ) (low : 192 ≤ i) (high : i < 362) (e : i �
         omega (arith, r, next-weigh, weigh-upto (isChanged m) (suc (i - 192)) (170 - suc (i - 192)), ap (λ (k : ℕ). weigh (chosen (isChanged m) k)) q)
 
     pub walk-put : (vs b u v : List ℕ) → length vs ≡ 1820 → u ≡ put b 4 (elementsBytes (valued 0 vs (chosen (isChanged m) (reached i)))) → v ≡ put u at (elementBytes (x .id) (bytesAt vs (x .position) (x .size)))
-        → j ≡ first (isMarked m) (384 - (i + 1)) (i + 1) → v ≡ put b 4 (elementsBytes (valued 0 vs (chosen (isChanged m) (reached j))))
+        → MarkFrom m (i + 1) y → v ≡ put b 4 (elementsBytes (valued 0 vs (chosen (isChanged m) (reached (y .at)))))
     walk-put vs b u v l p q k =
         let n = i - 192 in
         let s : at ≡ 4 + length (elementsBytes (valued 0 vs (chosen (isChanged m) (i - 192)))) = w ∙ ap (λ (y : ℕ). 4 + weigh (chosen (isChanged m) y)) here ∙ ap (λ (y : ℕ). 4 + y) (sym (weighed vs (isChanged m) n l (omega arith))) in
@@ -179,27 +189,21 @@ module _ (m : List ℕ) (i j : ℕ) (low : 192 ≤ i) (high : i < 362) (e : i �
         ∙ ap (λ (es : List (ℕ × List ℕ)). put b 4 (elementsBytes es)) (sym (valued-more vs (isChanged m) n (omega arith) marked-here))
         ∙ ap (λ (ids : List ℕ). put b 4 (elementsBytes (valued 0 vs ids))) (sym (chosen-turn k))
 
-module _ (m : List ℕ) (i : ℕ) (e : i ≡ first (isMarked m) (384 - 192) 192) where
-  pub walk-start : 4 ≡ 4 + weigh (chosen (isChanged m) (reached i))
+module _ (m : List ℕ) (x : Mark) (k : MarkFrom m 192 x) where
+  pub walk-start : 4 ≡ 4 + weigh (chosen (isChanged m) (reached (x .at)))
   unfolding weigh
-  walk-start = ap (λ (ids : List ℕ). 4 + weigh ids) (sym (chosen-none m i e))
+  walk-start = ap (λ (ids : List ℕ). 4 + weigh ids) (sym (chosen-none m x k))
 
-  pub put-start : (vs b : List ℕ) → b ≡ put b 4 (elementsBytes (valued 0 vs (chosen (isChanged m) (reached i))))
+  pub put-start : (vs b : List ℕ) → b ≡ put b 4 (elementsBytes (valued 0 vs (chosen (isChanged m) (reached (x .at)))))
   unfolding valued
-  put-start vs b = elements-none b 4 ∙ ap (λ (ids : List ℕ). put b 4 (elementsBytes (valued 0 vs ids))) (sym (chosen-none m i e))
+  put-start vs b = elements-none b 4 ∙ ap (λ (ids : List ℕ). put b 4 (elementsBytes (valued 0 vs ids))) (sym (chosen-none m x k))
 
 module _ (m : List ℕ) (i : ℕ) (h : 362 ≤ i) where
   all : reached i ≡ 170
   all = omega arith
 
-  pub walk-end : (at : ℕ) → at ≡ 4 + weigh (chosen (isChanged m) (reached i)) → at ≡ rowBytes (chosen (isChanged m) 170)
-  walk-end at w = w ∙ ap (λ (n : ℕ). 4 + weigh (chosen (isChanged m) n)) all
-
   pub put-end : (vs b v : List ℕ) → v ≡ put b 4 (elementsBytes (valued 0 vs (chosen (isChanged m) (reached i)))) → v ≡ put b 4 (elementsBytes (valued 0 vs (chosen (isChanged m) 170)))
   put-end vs b v w = w ∙ ap (λ (n : ℕ). put b 4 (elementsBytes (valued 0 vs (chosen (isChanged m) n)))) all
-
-pub walk-fits : (m : List ℕ) (i at : ℕ) → at ≡ 4 + weigh (chosen (isChanged m) (reached i)) → at + 4 < 2 ^ 64
-walk-fits m i at w = omega (arith, w, weigh-few (isChanged m) (reached i) (omega arith))
 
 -- the element of a mark
 module _ (i : ℕ) (x : Element) (t : x ≡ threadElement (i - 192)) (h : i < 362) where
@@ -211,9 +215,6 @@ module _ (i : ℕ) (x : Element) (t : x ≡ threadElement (i - 192)) (h : i < 36
 
   pub element-inside : (n : ℕ) → n ≡ 1820 → x .position + x .size ≤ n
   element-inside n l = omega (arith, inside, ap (λ (y : Element). y .position) t, ap (λ (y : Element). y .size) t)
-
-  pub element-fits : (m : List ℕ) (at : ℕ) → at ≡ 4 + weigh (chosen (isChanged m) (reached i)) → at + 4 + x .size < 2 ^ 64
-  element-fits m at w = omega (arith, w, weigh-few (isChanged m) (reached i) (omega arith), small, ap (λ (y : Element). y .size) t)
 
   pub element-small : x .size < 2 ^ 16
   element-small = omega (arith, small, ap (λ (y : Element). y .size) t)

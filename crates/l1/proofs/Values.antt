@@ -1,11 +1,11 @@
 -- A value in the cache: the tests of it, its place, and a write, in the form of the code's needs. Assumes nothing.
-use mathlib.Core.Path.{_≡_, refl, sym, ap, ap₂, _∙_}
-use mathlib.Core.Bool.{Bool, true, false, not, cond}
+use mathlib.Core.Path.{_≡_, refl, sym, ap, ap₂, _∙_, subst}
+use mathlib.Core.Bool.{Bool, true, false, not, cond, _||_}
 use mathlib.Core.Logic.{_⊎_, inl, inr}
-use mathlib.Core.List.{List}
+use mathlib.Core.List.{List, [], _∷_}
 use Prim.Native.Nat.{ℕ, _+_, _^_, _≤_, _<_}
 use native.Mathlib.Omega.{arith}
-use lib.Dec.{eqb, ltb}
+use lib.Dec.{T, eqb, ltb}
 use lib.ListN.{length}
 use borrow.Author.Tests.{eq-eqb, ne-eqb, eqb-true, eqb-false, lt-ltb, le-ltb, not-true, not-false}
 use Rattle.octets.specs.Bytes.{bytesAt, put}
@@ -19,36 +19,28 @@ use Rattle.rules.specs.declared.Usage.{Usage}
 use Rattle.rules.specs.declared.Usage.the-variants.{ThreadGet, RunInput}
 use Rattle.elements.specs.declared.Entry.{Entry}
 use Rattle.elements.specs.declared.Kind.the-variants.{Nop, Listed}
-use Rattle.elements.specs.declared.Element.{Element as Thing}
-use Rattle.elements.specs.Table.{table, position, kindOf, numberOf, numbered, threadElement}
-use Rattle.rules.specs.Rules.{allows, scopeFor}
-use Rattle.elements.specs.Right.{past}
+use Rattle.elements.specs.declared.Cell.{Cell}
+use Rattle.elements.specs.Table.{table, below, position, sourceOf, find, kindOf, numberOf, numbered, threadElement}
+use Rattle.elements.specs.Cells.{cellOf, noCell, registerCell}
+use Rattle.rules.specs.Rules.{allows, permits, scopeFor}
+use Rattle.elements.specs.Right.{everyEntry, past}
 use Rattle.elements.proofs.Table.{table-right, nop-zero, number-lt, number-mono, Numbered, element-number, position-end, thread-stored, size-bound}
+use Rattle.elements.proofs.CellLaws.{inReach, cell-known, cell-rule}
 use Rattle.rules.proofs.Rules.{permits-cases, allows-scope}
 use Rattle.exits.specs.Exits.{elementOf}
-use Rattle.store.proofs.Search.{both, no-bool}
+use Rattle.store.specs.Search.{every}
+use Rattle.store.proofs.Search.{both, no-bool, every-at}
 use Rattle.admission.specs.declared.Admission.{Admission}
 use Rattle.admission.specs.declared.Admission.the-variants.{Admitted, Refused}
 use Rattle.admission.specs.Refusals.{success, refusal, judgement, Passed}
 use Rattle.admission.proofs.Judging.{judged-passed, all-refused, all-admitted}
 use Rattle.l1.specs.Marks.{Cache, withMark, allowed, isInput, isReadable, isSpecial, goodCache}
 use Rattle.l1.specs.Cache.{placeZero, WriteOutcome, change, writeCache, keep}
-use Rattle.l1.specs.Private.{elementTests, elementGood}
+use Rattle.l1.specs.Private.{cellIf, Sized, Within, keptAt, changedAt, elementTests, elementGood}
 use Rattle.l1.proofs.Marking.{values-long, marks-long}
-
--- ---- the element of an ID
-none-there : threadElement 170 ≡ record { id = 0; size = 0; position = 0 }
-unfolding threadElement numbered table
-none-there = refl
 
 pub few : (id : ℕ) → id < 2 ^ 16 → numberOf id ≤ 170
 few id h = omega (arith, number-mono id past (omega arith), table-right .thread-elements)
-
-pub element-known : (id e : ℕ) (x : Thing) → x ≡ threadElement e → e ≡ numberOf id → x ≡ elementOf id
-element-known id e x q p = q ∙ ap threadElement p
-
-pub element-none : (id e : ℕ) → e ≡ numberOf id → 170 ≤ e → id < 2 ^ 16 → _≡_ {A = Thing} (record { id = 0; size = 0; position = 0 }) (elementOf id)
-element-none id e p h l = let q : numberOf id ≡ 170 = omega (arith, few id l) in sym (ap threadElement q ∙ none-there)
 
 -- an ID that a use for threads permits
 pub record ThreadId (id : ℕ) : Type 0 where
@@ -78,6 +70,23 @@ readable-thread id e =
 pub thread-number : (id : ℕ) → ThreadId id → numberOf id < 170
 thread-number id t = number-lt id (t .entry) (t .listed) (t .scope)
 
+-- the sizes of the 170, computed
+abbrev isSized : ℕ → Bool
+isSized n = eqb n 4 || (eqb n 8 || eqb n 16)
+
+all-sized : every (λ e. isSized (threadElement e .size)) 170 0 ≡ true
+unfolding every threadElement numbered table
+all-sized = refl
+
+sized : (n : ℕ) → isSized n ≡ true → Sized n
+sized n e = go (eqb n 4) (eqb n 8) (eqb n 16) refl refl refl e
+  where
+    go : (a b c : Bool) → eqb n 4 ≡ a → eqb n 8 ≡ b → eqb n 16 ≡ c → (a || (b || c)) ≡ true → Sized n
+    go true b c p q r e = inl (eqb-true n 4 p)
+    go false true c p q r e = inr (inl (eqb-true n 8 q))
+    go false false true p q r e = inr (inr (eqb-true n 16 r))
+    go false false false p q r e = absurd (no-bool e)
+
 module _ (e : ℕ) (h : e < 170) where
   the-number : Numbered e
   the-number = element-number e h
@@ -92,52 +101,104 @@ module _ (e : ℕ) (h : e < 170) where
   pub number-small : threadElement e .size ≤ 24
   number-small = omega (arith, the-number .size, size-bound (threadElement e .id) (the-number .entry) (the-number .listed) .1)
 
+  pub number-sized : Sized (threadElement e .size)
+  number-sized = sized (threadElement e .size) (every-at (λ e. isSized (threadElement e .size)) 170 0 all-sized e (omega arith) (omega arith))
+
   pub number-back : elementOf (threadElement e .id) ≡ threadElement e
   number-back = ap threadElement (the-number .number)
 
+-- ---- the cell of an ID
+pub thread-within : (id : ℕ) → ThreadId id → Within (cellOf id)
+unfolding cellOf
+thread-within id t =
+    let h = thread-number id t in
+    record { number = h; inside = number-inside (numberOf id) h; sized = number-sized (numberOf id) h }
+
+-- each register is an input, and each but PPR can be read: computed
+inputs-all : T (everyEntry (λ (i : ℕ) (x : Entry). not (inReach i) || isInput i))
+unfolding isInput permits allows kindOf find table sourceOf position below
+inputs-all = tt
+
+readables-all : T (everyEntry (λ (i : ℕ) (x : Entry). not (inReach i) || (eqb i 0x103A || isReadable i)))
+unfolding isReadable permits allows kindOf find table sourceOf position below
+readables-all = tt
+
+module _ (id : ℕ) (x : Cell) where
+  cell-as : (good : Bool) → x ≡ cellOf id → good ≡ true → x ≡ cellIf good id
+  unfolding cellIf
+  cell-as good e g = e ∙ sym (ap (λ (t : Bool). cond t (cellOf id) noCell) g)
+
+  pub cell-input : x ≡ registerCell id → (x .size ≡ 0 → ⊥) → x ≡ cellIf (isInput id) id
+  cell-input e n = cell-as (isInput id) (cell-known id x e n) (cell-rule id x e n isInput inputs-all)
+
+  pub cell-readable : x ≡ registerCell id → (x .size ≡ 0 → ⊥) → (id ≡ 0x103A → ⊥) → x ≡ cellIf (isReadable id) id
+  cell-readable e n p =
+      cell-as (isReadable id) (cell-known id x e n)
+      (ap (λ (t : Bool). t || isReadable id) (sym (ne-eqb id 0x103A p)) ∙ cell-rule id x e n (λ i. eqb i 0x103A || isReadable i) readables-all)
+
+  pub cell-listed : (t good : Bool) → t ≡ good → not t ≡ false → x ≡ cellOf id → x ≡ cellIf good id
+  cell-listed t good g n e = cell-as good e (sym g ∙ not-false t n)
+
+pub cell-not : (id : ℕ) (t good : Bool) → t ≡ good → not t ≡ true → noCell ≡ cellIf good id
+unfolding cellIf
+cell-not id t good g n = sym (ap (λ (t : Bool). cond t (cellOf id) noCell) (sym g ∙ not-true t n))
+
 -- ---- the tests of a write or a read
-module _ (vs ms : List ℕ) (good : Bool) (id : ℕ) (v : List ℕ) (c : Bool) (ec : c ≡ goodCache (record { values = vs; marks = ms })) where
-  abbrev cache : Cache
-  cache = record { values = vs; marks = ms }
-
+module _ (vs ms : List ℕ) (size : ℕ) (v : List ℕ) (c : Bool) (ec : c ≡ goodCache (record { values = vs; marks = ms })) where
   judgedBy : Bool → Bool → Bool → Bool → Admission
-  judgedBy x a g b = cond (not x) (Refused CacheBad) (cond a (Refused Length) (cond (not g) (Refused (Element Id placeZero)) (cond (not b) (Refused (Element Size placeZero)) Admitted)))
+  judgedBy x a z b = cond (not x) (Refused CacheBad) (cond a (Refused Length) (cond z (Refused (Element Id placeZero)) (cond (not b) (Refused (Element Size placeZero)) Admitted)))
 
-  judged-as : (x a g b : Bool) → c ≡ x → ltb 65528 (length v) ≡ a → good ≡ g → eqb (length v) (elementOf id .size) ≡ b → judgedBy x a g b ≡ elementGood (record { values = vs; marks = ms }) good id v
+  judged-as : (x a z b : Bool) → c ≡ x → ltb 65528 (length v) ≡ a → eqb size 0 ≡ z → eqb (length v) size ≡ b → judgedBy x a z b ≡ elementGood (record { values = vs; marks = ms }) size v
   unfolding judgedBy elementGood
-  judged-as x a g b p q r s = sym (ap₂ (λ (y z : Bool). judgedBy y z good (eqb (length v) (elementOf id .size))) (sym ec ∙ p) q ∙ ap₂ (judgedBy x a) r s)
+  judged-as x a z b p q r s = sym (ap₂ (λ (y t : Bool). judgedBy y t (eqb size 0) (eqb (length v) size)) (sym ec ∙ p) q ∙ ap₂ (judgedBy x a) r s)
 
-  pub element-cache : not c ≡ true → Refused CacheBad ≡ elementGood (record { values = vs; marks = ms }) good id v
+  pub element-cache : not c ≡ true → Refused CacheBad ≡ elementGood (record { values = vs; marks = ms }) size v
   unfolding judgedBy
-  element-cache n = judged-as false (ltb 65528 (length v)) good (eqb (length v) (elementOf id .size)) (not-true c n) refl refl refl
+  element-cache n = judged-as false (ltb 65528 (length v)) (eqb size 0) (eqb (length v) size) (not-true c n) refl refl refl
 
   module _ (n : not c ≡ false) where
-    pub element-long : 65528 < length v → Refused Length ≡ elementGood (record { values = vs; marks = ms }) good id v
+    pub element-long : 65528 < length v → Refused Length ≡ elementGood (record { values = vs; marks = ms }) size v
     unfolding judgedBy
-    element-long h = judged-as true true good (eqb (length v) (elementOf id .size)) (not-false c n) (lt-ltb _ _ h) refl refl
+    element-long h = judged-as true true (eqb size 0) (eqb (length v) size) (not-false c n) (lt-ltb _ _ h) refl refl
 
     module _ (h : length v ≤ 65528) where
-      pub element-id : not good ≡ true → Refused (Element Id placeZero) ≡ elementGood (record { values = vs; marks = ms }) good id v
+      pub element-id : size ≡ 0 → Refused (Element Id placeZero) ≡ elementGood (record { values = vs; marks = ms }) size v
       unfolding judgedBy
-      element-id g = judged-as true false false (eqb (length v) (elementOf id .size)) (not-false c n) (le-ltb _ _ h) (not-true good g) refl
+      element-id z = judged-as true false true (eqb (length v) size) (not-false c n) (le-ltb _ _ h) (eq-eqb _ _ z) refl
 
-      module _ (g : not good ≡ false) (x : Thing) (e : x ≡ elementOf id) where
-        same-size : x .size ≡ elementOf id .size
-        same-size = ap (λ (y : Thing). y .size) e
-
-        pub element-size : (length v ≡ x .size → ⊥) → Refused (Element Size placeZero) ≡ elementGood (record { values = vs; marks = ms }) good id v
+      module _ (z : size ≡ 0 → ⊥) where
+        pub element-size : (length v ≡ size → ⊥) → Refused (Element Size placeZero) ≡ elementGood (record { values = vs; marks = ms }) size v
         unfolding judgedBy
-        element-size k = judged-as true false true false (not-false c n) (le-ltb _ _ h) (not-false good g) (ne-eqb _ _ (λ q. k (q ∙ sym same-size)))
+        element-size k = judged-as true false false false (not-false c n) (le-ltb _ _ h) (ne-eqb _ _ z) (ne-eqb _ _ k)
 
-        pub element-good : length v ≡ x .size → Admitted ≡ elementGood (record { values = vs; marks = ms }) good id v
+        pub element-good : length v ≡ size → Admitted ≡ elementGood (record { values = vs; marks = ms }) size v
         unfolding judgedBy
-        element-good q = judged-as true false true true (not-false c n) (le-ltb _ _ h) (not-false good g) (eq-eqb _ _ (q ∙ same-size))
+        element-good q = judged-as true false false true (not-false c n) (le-ltb _ _ h) (ne-eqb _ _ z) (eq-eqb _ _ q)
+
+-- by the size of the ID's cell they are those of the definition
+pub tests-same : (c : Cache) (good : Bool) (id : ℕ) (x : Cell) (v : List ℕ) → x ≡ cellIf good id → (good ≡ true → ThreadId id) → judgement (elementTests c good id v) ≡ elementGood c (x .size) v
+unfolding elementGood cellIf cellOf
+tests-same c good id x v e t = go good refl ∙ ap (λ (y : Cell). elementGood c (y .size) v) (sym e)
+  where
+    go : (b : Bool) → good ≡ b → judgement (elementTests c b id v) ≡ elementGood c (cellIf b id .size) v
+    go true q =
+        let s : elementOf id .size ≡ 0 → ⊥ = λ z. some (thread-within id (t q) .sized) z in
+        ap (λ (z : Bool). judgement ((not (goodCache c), CacheBad) ∷ (ltb 65528 (length v), Length) ∷ (z, Element Id placeZero) ∷ (not (eqb (length v) (elementOf id .size)), Element Size placeZero) ∷ [])) (sym (ne-eqb _ _ s))
+      where
+        some : Sized (cellOf id .size) → elementOf id .size ≡ 0 → ⊥
+        some (inl a) z = omega arith
+        some (inr (inl a)) z = omega arith
+        some (inr (inr a)) z = omega arith
+    go false q = refl
 
 -- what they say where none holds
-module _ (vs ms : List ℕ) (good : Bool) (id : ℕ) (v : List ℕ) (a : Admission) (q : a ≡ elementGood (record { values = vs; marks = ms }) good id v) (h : a ≡ Admitted) where
-  passed : Passed (elementTests (record { values = vs; marks = ms }) good id v)
+module _ (vs ms : List ℕ) (good : Bool) (id : ℕ) (x : Cell) (v : List ℕ) (e : x ≡ cellIf good id) (a : Admission) (q : a ≡ elementGood (record { values = vs; marks = ms }) (x .size) v) (h : a ≡ Admitted) where
+  abbrev sizeTests : List (Bool × Fault)
+  sizeTests = (not (goodCache (record { values = vs; marks = ms })), CacheBad) ∷ (ltb 65528 (length v), Length) ∷ (eqb (x .size) 0, Element Id placeZero) ∷ (not (eqb (length v) (x .size)), Element Size placeZero) ∷ []
+
+  passed : Passed sizeTests
   unfolding elementGood
-  passed = judged-passed (elementTests (record { values = vs; marks = ms }) good id v) (sym q ∙ h)
+  passed = judged-passed sizeTests (sym q ∙ h)
 
   pub admitted-values : length vs ≡ 1820
   admitted-values = values-long vs ms _ refl (passed .0)
@@ -145,38 +206,76 @@ module _ (vs ms : List ℕ) (good : Bool) (id : ℕ) (v : List ℕ) (a : Admissi
   pub admitted-marks : length ms ≡ 6
   admitted-marks = marks-long vs ms _ refl (passed .0)
 
-  pub admitted-size : length v ≡ elementOf id .size
+  pub admitted-size : length v ≡ x .size
   admitted-size = eqb-true _ _ (not-false _ (passed .1 .1 .1 .0))
 
-  pub admitted-input : good ≡ isInput id → numberOf id < 170
-  admitted-input e = thread-number id (input-thread id (sym e ∙ not-false _ (passed .1 .1 .0)))
+  pub admitted-good : good ≡ true
+  unfolding cellIf
+  admitted-good = go good refl
+    where
+      go : (b : Bool) → good ≡ b → good ≡ true
+      go true p = p
+      go false p =
+          let z : x ≡ noCell = e ∙ ap (λ (t : Bool). cond t (cellOf id) noCell) p in
+          absurd (no-bool (sym (passed .1 .1 .0) ∙ ap (λ (y : Cell). eqb (y .size) 0) z))
 
-  pub admitted-readable : good ≡ isReadable id → isReadable id ≡ true
-  admitted-readable e = sym e ∙ not-false _ (passed .1 .1 .0)
+  pub admitted-cell : x ≡ cellOf id
+  unfolding cellIf
+  admitted-cell = e ∙ ap (λ (t : Bool). cond t (cellOf id) noCell) admitted-good
+
+-- of a write
+pub write-within : (vs ms : List ℕ) (id : ℕ) (x : Cell) (v : List ℕ) → x ≡ cellIf (isInput id) id → (a : Admission) → a ≡ elementGood (record { values = vs; marks = ms }) (x .size) v → a ≡ Admitted → Within x
+write-within vs ms id x v e a q h =
+    subst Within (sym (admitted-cell vs ms (isInput id) id x v e a q h)) (thread-within id (input-thread id (admitted-good vs ms (isInput id) id x v e a q h)))
 
 -- ---- a value kept
-module _ (id : ℕ) (x : Thing) (e : x ≡ elementOf id) where
-  pub keep-from : (v : List ℕ) → length v ≡ elementOf id .size → 0 + x .size ≤ length v
-  keep-from v h = omega (arith, h, ap (λ (y : Thing). y .size) e)
+module _ (x : Cell) (w : Within x) where
+  pub keep-sized : Sized (x .size)
+  keep-sized = w .sized
 
-  pub keep-to : (n : ℕ) → numberOf id < 170 → n ≡ 1820 → x .position + x .size ≤ n
-  keep-to n h l = omega (arith, number-inside (numberOf id) h, ap (λ (y : Thing). y .size) e, ap (λ (y : Thing). y .position) e)
+  pub keep-to : (n : ℕ) → n ≡ 1820 → x .position + x .size ≤ n
+  keep-to n l = omega (arith, w .inside)
 
-  pub kept : (vs ms v us ns : List ℕ) (n : ℕ) → length v ≡ elementOf id .size → us ≡ put vs (x .position) (bytesAt v 0 (x .size)) → n ≡ numberOf id → ns ≡ withMark ms n
-      → _≡_ {A = Cache} (record { values = us; marks = ns }) (keep (record { values = vs; marks = ms }) id v)
-  unfolding keep
-  kept vs ms v us ns n l u m w =
-      let z : bytesAt v 0 (x .size) ≡ v = ap (bytesAt v 0) (ap (λ (y : Thing). y .size) e ∙ sym l) ∙ whole v in
-      ap₂ (λ (a b : List ℕ). record { values = a; marks = b }) (u ∙ ap₂ (λ (p : ℕ) (y : List ℕ). put vs p y) (ap (λ (y : Thing). y .position) e) z) (w ∙ ap (withMark ms) m)
+  pub keep-number : x .number < 384
+  keep-number = omega (arith, w .number)
 
-pub kept-changed : (id : ℕ) (vs ms v us ns os : List ℕ) (n : ℕ) → _≡_ {A = Cache} (record { values = us; marks = ns }) (keep (record { values = vs; marks = ms }) id v) → n ≡ numberOf id → os ≡ withMark ns (192 + n)
-    → _≡_ {A = Cache} (record { values = us; marks = os }) (change (record { values = vs; marks = ms }) id v)
-unfolding keep change
-kept-changed id vs ms v us ns os n k m w =
-    ap (λ (a : List ℕ). record { values = us; marks = a }) (w ∙ ap (λ (a : ℕ). withMark ns (192 + a)) m) ∙ ap (λ (c : Cache). record { values = c .values; marks = withMark (c .marks) (192 + numberOf id) }) k
+pub kept : (x : Cell) (vs ms v us ns : List ℕ) → length v ≡ x .size → us ≡ put vs (x .position) (bytesAt v 0 (x .size)) → ns ≡ withMark ms (x .number)
+    → _≡_ {A = Cache} (record { values = us; marks = ns }) (keptAt (record { values = vs; marks = ms }) x v)
+unfolding keptAt
+kept x vs ms v us ns l u w =
+    let z : bytesAt v 0 (x .size) ≡ v = ap (bytesAt v 0) (sym l) ∙ whole v in
+    ap₂ (λ (a b : List ℕ). record { values = a; marks = b }) (u ∙ ap (put vs (x .position)) z) w
+
+pub kept-changed : (x : Cell) (vs ms v us ns os : List ℕ) → _≡_ {A = Cache} (record { values = us; marks = ns }) (keptAt (record { values = vs; marks = ms }) x v) → os ≡ withMark ns (192 + x .number)
+    → _≡_ {A = Cache} (record { values = us; marks = os }) (changedAt (record { values = vs; marks = ms }) x v)
+unfolding keptAt changedAt
+kept-changed x vs ms v us ns os k w =
+    ap (λ (a : List ℕ). record { values = us; marks = a }) w ∙ ap (λ (c : Cache). record { values = c .values; marks = withMark (c .marks) (192 + x .number) }) k
+
+-- in the cell of an ID
+pub kept-as : (c : Cache) (id : ℕ) (x : Cell) (v : List ℕ) → x ≡ cellOf id → keptAt c x v ≡ keep c id v
+unfolding keptAt keep cellOf
+kept-as c id x v e = ap (λ (y : Cell). keptAt c y v) e
+
+pub changed-as : (c : Cache) (id : ℕ) (x : Cell) (v : List ℕ) → x ≡ cellOf id → changedAt c x v ≡ change c id v
+unfolding changedAt change cellOf
+changed-as c id x v e = ap (λ (y : Cell). changedAt c y v) e
+
+-- ---- a copy by its size
+module _ (src dst out : List ℕ) (from to size n : ℕ) (e : out ≡ put dst to (bytesAt src from n)) (q : size ≡ n) where
+  pub copied : out ≡ put dst to (bytesAt src from size)
+  copied = e ∙ ap (λ (k : ℕ). put dst to (bytesAt src from k)) (sym q)
+
+pub sized-four : (size : ℕ) → Sized size → (size ≡ 8 → ⊥) → (size ≡ 16 → ⊥) → size ≡ 4
+sized-four size (inl e) a b = e
+sized-four size (inr (inl e)) a b = absurd (a e)
+sized-four size (inr (inr e)) a b = absurd (b e)
+
+pub four-fits : (size : ℕ) → Sized size → (size ≡ 8 → ⊥) → (size ≡ 16 → ⊥) → (i n : ℕ) → i + size ≤ n → i + 4 ≤ n
+four-fits size s a b i n h = omega (arith, sized-four size s a b)
 
 -- ---- a write
-module _ (vs ms : List ℕ) (id : ℕ) (v : List ℕ) (good : Bool) (g : good ≡ isInput id) (a : Admission) (q : a ≡ elementGood (record { values = vs; marks = ms }) good id v) (r : Answer) where
+module _ (vs ms : List ℕ) (id : ℕ) (v : List ℕ) (x : Cell) (e : x ≡ cellIf (isInput id) id) (a : Admission) (q : a ≡ elementGood (record { values = vs; marks = ms }) (x .size) v) (r : Answer) where
   abbrev before : Cache
   before = record { values = vs; marks = ms }
 
@@ -187,15 +286,15 @@ module _ (vs ms : List ℕ) (id : ℕ) (v : List ℕ) (good : Bool) (g : good �
   refused f = record { answer = refusal f; cache = before }
 
   judged : judgement (elementTests before (isInput id) id v) ≡ a
-  unfolding elementGood
-  judged = sym (q ∙ ap (λ (t : Bool). judgement (elementTests before t id v)) g)
+  judged = tests-same before (isInput id) id x v e (input-thread id) ∙ sym q
 
   pub write-bad : (f : Fault) → a ≡ Refused f → r ≡ refusal f → _≡_ {A = WriteOutcome} (record { answer = r; cache = record { values = vs; marks = ms } }) (writeCache (record { values = vs; marks = ms }) id v)
   unfolding writeCache
   write-bad f h i = ap (λ (y : Answer). record { answer = y; cache = before }) i ∙ sym (all-refused refused wrote (elementTests before (isInput id) id v) f (judged ∙ h))
 
-  pub write-done : (us ns : List ℕ) → a ≡ Admitted → _≡_ {A = Cache} (record { values = us; marks = ns }) (change (record { values = vs; marks = ms }) id v) → r ≡ success 0
+  pub write-done : (us ns : List ℕ) → a ≡ Admitted → _≡_ {A = Cache} (record { values = us; marks = ns }) (changedAt (record { values = vs; marks = ms }) x v) → r ≡ success 0
       → _≡_ {A = WriteOutcome} (record { answer = r; cache = record { values = us; marks = ns } }) (writeCache (record { values = vs; marks = ms }) id v)
   unfolding writeCache
   write-done us ns h k i =
-      ap₂ (λ (y : Answer) (d : Cache). record { answer = y; cache = d }) i k ∙ sym (all-admitted refused wrote (elementTests before (isInput id) id v) (judged ∙ h))
+      ap₂ (λ (y : Answer) (d : Cache). record { answer = y; cache = d }) i (k ∙ changed-as before id x v (admitted-cell vs ms (isInput id) id x v e a q h))
+      ∙ sym (all-admitted refused wrote (elementTests before (isInput id) id v) (judged ∙ h))

@@ -1,39 +1,32 @@
 -- Marks by words: the first mark that is left in a word is its leading zeros, and a word's marks are counted by its ones. Assumes nothing.
-use mathlib.Core.Path.{_≡_, sym, ap, ap₂, _∙_}
+use mathlib.Core.Path.{_≡_, sym, ap, ap₂, _∙_, subst}
 use mathlib.Core.Bool.{Bool, false, cond}
 use mathlib.Core.Logic.{_⊎_, inl, inr}
 use mathlib.Core.List.{List}
 use Prim.Native.Nat.{ℕ, zero, suc, _+_, _-_, _*_, _/_, _%_, _^_, _≤_, _<_}
-use native.Mathlib.Nat.{mod-lt, div-eq-of-lt, eq-zero-or-pos, pow-suc}
+use native.Mathlib.Nat.{mod-lt, mod-one, mod-eq-of-lt, div-eq-of-lt, eq-zero-or-pos, pow-suc, one-mul, zero-mul, zero-add}
 use native.Mathlib.Numerals.{add-one}
 use native.Mathlib.Decide.{decLt}
 use native.Mathlib.Omega.{arith}
 use lib.Dec.{eqb, lit<}
-use lib.Pow.{pow-pos, pow-mono, high, field, mod-mod-pow, ones-split, ones-lt}
-use lib.Bits.{bitAnd, and-mask}
+use lib.Pow.{pow-pos, pow-mono, high, low, field, mod-mod-pow}
+use lib.Bits.{bitAnd, and-le-l, bitXor, xor-block, xor-self, xor-zero-r}
 use lib.Count.{leadingZeros, leading-le, leading-top, ones, ones-le}
-use lib.ListN.{getD}
+use lib.ListN.{length, getD, List·getD-eq-default}
 use borrow.Author.Tests.{eq-eqb}
 use Rattle.store.specs.Search.{first, tally}
-use Rattle.store.proofs.Search.{first-bounds, found-first, tally-ext}
+use Rattle.store.proofs.Search.{found-first, tally-ext}
+use Rattle.l1.specs.declared.Mark.{Mark}
 use Rattle.l1.specs.Marks.{isMarked}
-use Rattle.l1.specs.Private.{isChanged}
+use Rattle.l1.specs.Private.{isChanged, behind, topMark, MarkFrom}
 use Rattle.l1.proofs.Masks.{ones-mask, changed-mask}
+use Rattle.l1.proofs.Marking.{one-shifted}
 
 -- digit j of a word of 64, from the most significant
 abbrev digit : ℕ → ℕ → ℕ
 digit w j = w / 2 ^ (63 - j) % 2
 
--- ---- what is left of a word from digit k on
-left-mask : (k : ℕ) → k < 64 → (2 ^ 64 - 1) / 2 ^ k ≡ 2 ^ (64 - k) - 1
-left-mask k h =
-    let e : 64 - k + k ≡ 64 = omega arith in
-    ap (λ (n : ℕ). (2 ^ n - 1) / 2 ^ k) (sym e) ∙ ap (λ (n : ℕ). n / 2 ^ k) (ones-split (64 - k) k) ∙ high (2 ^ (64 - k) - 1) k (ones-lt k)
-
-left-as : (w k : ℕ) → k < 64 → bitAnd w ((2 ^ 64 - 1) / 2 ^ k) ≡ w % 2 ^ (64 - k)
-left-as w k h = ap (bitAnd w) (left-mask k h) ∙ and-mask w (64 - k)
-
--- its digits are the word's
+-- ---- what is left of a word from digit k on: its digits are the word's
 left-digit : (w k j : ℕ) → k ≤ j → j < 64 → digit (w % 2 ^ (64 - k)) j ≡ digit w j
 left-digit w k j a b =
     let e : suc (j - k) + (63 - j) ≡ 64 - k = omega arith in
@@ -84,13 +77,13 @@ top-of w k h p =
 none-left : (w k j : ℕ) → k < 64 → w % 2 ^ (64 - k) ≡ 0 → k ≤ j → j < 64 → digit w j ≡ 0
 none-left w k j h z a b = sym (left-digit w k j a b) ∙ ap (λ (n : ℕ). digit n j) z ∙ low-digit 0 j 0 (lit< tt) (omega arith)
 
--- ---- the marks from i to the end of its word
-mark-in : (m : List ℕ) (i j : ℕ) → i - i % 64 ≤ j → j < i - i % 64 + 64 → isMarked m j ≡ eqb (digit (getD m (i / 64) 0) (j - (i - i % 64))) 1
+-- ---- the marks of word q from digit k on
+mark-in : (m : List ℕ) (q j : ℕ) → 64 * q ≤ j → j < 64 * q + 64 → isMarked m j ≡ eqb (digit (getD m q 0) (j - 64 * q)) 1
 unfolding isMarked
-mark-in m i j a b =
-    let q : j / 64 ≡ i / 64 = omega arith in
-    let r : j % 64 ≡ j - (i - i % 64) = omega arith in
-    ap₂ (λ (x y : ℕ). eqb (getD m x 0 / 2 ^ (63 - y) % 2) 1) q r
+mark-in m q j a b =
+    let x : j / 64 ≡ q = omega arith in
+    let y : j % 64 ≡ j - 64 * q = omega arith in
+    ap₂ (λ (u v : ℕ). eqb (getD m u 0 / 2 ^ (63 - v) % 2) 1) x y
 
 -- so many that lack p are passed
 pub first-skip : (p : ℕ → Bool) (d n i : ℕ) → d ≤ n → ((j : ℕ) → i ≤ j → j < i + d → p j ≡ false) → first p n i ≡ first p (n - d) (i + d)
@@ -105,57 +98,109 @@ first-skip p (suc d) (suc n) i h f =
     let y : i + 1 + d ≡ i + suc d = omega arith in
     ap (λ (b : Bool). cond b i (first p n (i + 1))) (f i (omega arith) (omega arith)) ∙ first-skip p d n (i + 1) (omega arith) (λ j a b. f j (omega arith) (omega arith)) ∙ ap₂ (first p) x y
 
-module _ (m : List ℕ) (i f : ℕ) (h : i < 384) (e : f ≡ first (isMarked m) (384 - i) i) where
-  abbrev word : ℕ
-  word = getD m (i / 64) 0
-
-  abbrev left : ℕ
-  left = bitAnd word (18446744073709551615 / 2 ^ (i % 64))
-
-  left-is : left ≡ word % 2 ^ (64 - i % 64)
-  left-is = left-as word (i % 64) (omega arith)
-
-  pub next-hit : (left ≡ 0 → ⊥) → i - i % 64 + leadingZeros 64 left ≡ f
-  next-hit n =
-      let p : 0 < word % 2 ^ (64 - i % 64) = some (eq-zero-or-pos (word % 2 ^ (64 - i % 64))) in
-      let t = top-of word (i % 64) (omega arith) p in
-      let r = leadingZeros 64 (word % 2 ^ (64 - i % 64)) in
-      let s = i - i % 64 + r in
-      ap (λ (x : ℕ). i - i % 64 + leadingZeros 64 x) left-is
-      ∙ sym (e ∙ found-first (isMarked m) (384 - i) i s (record {
-        has = mark-in m i s (omega arith) (omega (arith, t .within)) ∙ eq-eqb _ _ (ap (digit word) (back r) ∙ t .set);
-        above = omega (arith, t .from);
-        below = omega (arith, t .within);
-        none = λ j a b. mark-in m i j (omega arith) (omega (arith, t .within)) ∙ ap (λ (x : ℕ). eqb x 1) (t .clear (j - (i - i % 64)) (omega arith) (omega arith));
-      }))
+module _ (m : List ℕ) (q k left : ℕ) (hq : q < 6) (hk : k < 64) (e : left ≡ getD m q 0 % 2 ^ (64 - k)) where
+  pub word-hit : (left ≡ 0 → ⊥) → MarkFrom m (64 * q + k) (topMark (64 * q) left)
+  word-hit n =
+      record {
+        at = sym (found-first (isMarked m) (384 - (64 * q + k)) (64 * q + k) (64 * q + z) (record {
+          has = mark-in m q (64 * q + z) (omega arith) (omega (arith, top .within)) ∙ eq-eqb _ _ (ap (digit word) back ∙ top .set);
+          above = omega (arith, top .from);
+          below = omega (arith, top .within);
+          none = λ j a b. mark-in m q j (omega arith) (omega (arith, top .within)) ∙ ap (λ (x : ℕ). eqb x 1) (top .clear (j - 64 * q) (omega arith) (omega arith));
+        }));
+        left = rest;
+        above = omega (arith, top .from);
+        within = omega (arith, top .within);
+      }
     where
-      some : (word % 2 ^ (64 - i % 64) ≡ 0) ⊎ (0 < word % 2 ^ (64 - i % 64)) → 0 < word % 2 ^ (64 - i % 64)
-      some (inl z) = absurd (n (left-is ∙ z))
+      word : ℕ
+      word = getD m q 0
+
+      z : ℕ
+      z = leadingZeros 64 left
+
+      some : (left ≡ 0) ⊎ (0 < left) → 0 < left
+      some (inl x) = absurd (n x)
       some (inr p) = p
 
-      back : (r : ℕ) → i - i % 64 + r - (i - i % 64) ≡ r
-      back r = omega arith
+      top : Top word k z
+      top = subst (λ (l : ℕ). Top word k (leadingZeros 64 l)) (sym e) (top-of word k hk (subst (λ (l : ℕ). 0 < l) e (some (eq-zero-or-pos left))))
 
-  pub next-miss : left ≡ 0 → f ≡ first (isMarked m) (384 - (i - i % 64 + 64)) (i - i % 64 + 64)
-  next-miss z =
-      let x : 384 - i - (64 - i % 64) ≡ 384 - (i - i % 64 + 64) = omega arith in
-      let y : i + (64 - i % 64) ≡ i - i % 64 + 64 = omega arith in
-      e ∙ first-skip (isMarked m) (64 - i % 64) (384 - i) i (omega arith) (λ j a b. mark-in m i j (omega arith) (omega arith) ∙ ap (λ (x : ℕ). eqb x 1) (none-left word (i % 64) (j - (i - i % 64)) (omega arith) (sym left-is ∙ z) (omega arith) (omega arith))) ∙ ap₂ (first (isMarked m)) x y
+      back : 64 * q + z - 64 * q ≡ z
+      back = omega arith
 
--- it is no earlier than where the search began, and within the six words
-module _ (m : List ℕ) (i from : ℕ) (l : from ≤ 384) (e : first (isMarked m) (384 - from) from ≡ first (isMarked m) (384 - i) i) (h : i < 384) where
-  bounds : (from ≤ first (isMarked m) (384 - from) from) × (first (isMarked m) (384 - from) from ≤ from + (384 - from))
-  bounds = first-bounds (isMarked m) (384 - from) from
+      rest : left % 2 ^ (63 - z) ≡ behind m (64 * q + z)
+      rest =
+          let s : z + 1 - k + (63 - z) ≡ 64 - k = omega (arith, top .from, top .within) in
+          let x : q ≡ (64 * q + z) / 64 = omega (arith, top .within) in
+          let y : z ≡ (64 * q + z) % 64 = omega (arith, top .within) in
+          ap (λ (l : ℕ). l % 2 ^ (63 - z)) (e ∙ ap (λ (a : ℕ). word % 2 ^ a) (sym s)) ∙ mod-mod-pow word (z + 1 - k) (63 - z)
+          ∙ ap₂ (λ (u v : ℕ). getD m u 0 % 2 ^ (63 - v)) x y
 
-  pub hit-above : (left m i (first (isMarked m) (384 - from) from) h e ≡ 0 → ⊥) → from ≤ i - i % 64 + leadingZeros 64 (left m i (first (isMarked m) (384 - from) from) h e)
-  hit-above n = omega (arith, bounds .0, next-hit m i (first (isMarked m) (384 - from) from) h e n)
+  word-miss : left ≡ 0 → first (isMarked m) (384 - (64 * q + k)) (64 * q + k) ≡ first (isMarked m) (384 - 64 * (q + 1)) (64 * (q + 1))
+  word-miss n =
+      let x : 384 - (64 * q + k) - (64 - k) ≡ 384 - 64 * (q + 1) = omega arith in
+      let y : 64 * q + k + (64 - k) ≡ 64 * (q + 1) = omega arith in
+      first-skip (isMarked m) (64 - k) (384 - (64 * q + k)) (64 * q + k) (omega arith)
+      (λ j a b. mark-in m q j (omega arith) (omega arith) ∙ ap (λ (x : ℕ). eqb x 1) (none-left (getD m q 0) k (j - 64 * q) hk (sym e ∙ n) (omega arith) (omega arith)))
+      ∙ ap₂ (first (isMarked m)) x y
 
-  pub hit-within : (left m i (first (isMarked m) (384 - from) from) h e ≡ 0 → ⊥) → i - i % 64 + leadingZeros 64 (left m i (first (isMarked m) (384 - from) from) h e) ≤ 384
-  hit-within n = omega (arith, bounds .1, next-hit m i (first (isMarked m) (384 - from) from) h e n)
+-- ---- the search from word to word
+module _ (m : List ℕ) (k i : ℕ) (same : first (isMarked m) (384 - 64 * k) (64 * k) ≡ first (isMarked m) (384 - 64 * i) (64 * i)) where
+  whole : getD m i 0 < 2 ^ 64 → getD m i 0 ≡ getD m i 0 % 2 ^ (64 - 0)
+  whole h = sym (mod-eq-of-lt h)
 
-pub next-end : (m : List ℕ) (i f : ℕ) → f ≡ first (isMarked m) (384 - i) i → i ≤ 384 → 384 ≤ i → i ≡ f
-unfolding first
-next-end m i f e a b = let z : 384 - i ≡ 0 = omega arith in sym (e ∙ ap (λ (n : ℕ). first (isMarked m) n i) z)
+  start : 64 * i + 0 ≡ 64 * i
+  start = omega arith
+
+  from-start : (x : Mark) → k ≤ i → MarkFrom m (64 * i) x → MarkFrom m (64 * k) x
+  from-start x h y = record { at = y .at ∙ sym same; left = y .left; above = omega (arith, y .above); within = y .within }
+
+  pub from-hit : (x : Mark) → x ≡ topMark (64 * i) (getD m i 0) → k ≤ i → i < 6 → getD m i 0 < 2 ^ 64 → (getD m i 0 ≡ 0 → ⊥) → MarkFrom m (64 * k) x
+  from-hit x e h l f n =
+      from-start x h (subst (MarkFrom m (64 * i)) (sym e) (subst (λ (j : ℕ). MarkFrom m j (topMark (64 * i) (getD m i 0))) start (word-hit m i 0 (getD m i 0) l (lit< tt) (whole f) n)))
+
+  pub from-miss : i < 6 → getD m i 0 < 2 ^ 64 → getD m i 0 ≡ 0 → first (isMarked m) (384 - 64 * k) (64 * k) ≡ first (isMarked m) (384 - 64 * (i + 1)) (64 * (i + 1))
+  from-miss l f n = same ∙ ap (λ (j : ℕ). first (isMarked m) (384 - j) j) (sym start) ∙ word-miss m i 0 (getD m i 0) l (lit< tt) (whole f) n
+
+  pub from-end : k ≤ i → i ≤ 6 → 6 ≤ i → length m ≡ 6 → MarkFrom m (64 * k) (record { at = 384; left = 0 })
+  unfolding first
+  from-end h a b l =
+      let q : i ≡ 6 = omega arith in
+      from-start (record { at = 384; left = 0 }) h
+      (record { at = sym (ap (λ (j : ℕ). first (isMarked m) (384 - 64 * j) (64 * j)) q); left = sym (ap (λ (n : ℕ). n % 2 ^ 63) (past m l)); above = omega arith; within = omega arith })
+    where
+      past : (m : List ℕ) → length m ≡ 6 → getD m 6 0 ≡ 0
+      past m l = List·getD-eq-default m 0 (omega arith)
+
+-- ---- and behind a mark
+module _ (m : List ℕ) (x : Mark) (h : x .at < 384) (e : x .left ≡ behind m (x .at)) where
+  at-word : x .at - x .at % 64 ≡ 64 * (x .at / 64)
+  at-word = omega arith
+
+  pub next-hit : (y : Mark) → y ≡ topMark (x .at - x .at % 64) (x .left) → (x .left ≡ 0 → ⊥) → MarkFrom m (x .at + 1) y
+  next-hit y q n = go (decLt (x .at % 64) 63)
+    where
+      go : Dec (x .at % 64 < 63) → MarkFrom m (x .at + 1) y
+      go (yes l) =
+          let a : 64 - (x .at % 64 + 1) ≡ 63 - x .at % 64 = omega arith in
+          let b : 64 * (x .at / 64) + (x .at % 64 + 1) ≡ x .at + 1 = omega arith in
+          let f : x .left ≡ getD m (x .at / 64) 0 % 2 ^ (64 - (x .at % 64 + 1)) = e ∙ ap (λ (j : ℕ). getD m (x .at / 64) 0 % 2 ^ j) (sym a) in
+          subst (λ (j : ℕ). MarkFrom m j y) b (subst (MarkFrom m (64 * (x .at / 64) + (x .at % 64 + 1))) (sym (q ∙ ap (λ (j : ℕ). topMark j (x .left)) at-word)) (word-hit m (x .at / 64) (x .at % 64 + 1) (x .left) (omega arith) (omega arith) f n))
+      go (no l) =
+          let a : 63 - x .at % 64 ≡ 0 = omega arith in
+          absurd (n (e ∙ ap (λ (j : ℕ). getD m (x .at / 64) 0 % 2 ^ j) a ∙ mod-one (getD m (x .at / 64) 0)))
+
+  pub next-miss : (y : Mark) → MarkFrom m (64 * (x .at / 64 + 1)) y → x .left ≡ 0 → MarkFrom m (x .at + 1) y
+  next-miss y f n = record { at = f .at ∙ sym (go (decLt (x .at % 64) 63)); left = f .left; above = omega (arith, f .above); within = f .within }
+    where
+      go : Dec (x .at % 64 < 63) → first (isMarked m) (384 - (x .at + 1)) (x .at + 1) ≡ first (isMarked m) (384 - 64 * (x .at / 64 + 1)) (64 * (x .at / 64 + 1))
+      go (yes l) =
+          let a : 64 - (x .at % 64 + 1) ≡ 63 - x .at % 64 = omega arith in
+          let b : x .at + 1 ≡ 64 * (x .at / 64) + (x .at % 64 + 1) = omega arith in
+          ap (λ (j : ℕ). first (isMarked m) (384 - j) j) b
+          ∙ word-miss m (x .at / 64) (x .at % 64 + 1) (x .left) (omega arith) (omega arith) (e ∙ ap (λ (j : ℕ). getD m (x .at / 64) 0 % 2 ^ j) (sym a)) n
+      go (no l) = let b : x .at + 1 ≡ 64 * (x .at / 64 + 1) = omega arith in ap (λ (j : ℕ). first (isMarked m) (384 - j) j) b
 
 -- ---- the marks of a word, counted
 pub tally-append : (p : ℕ → Bool) (a b : ℕ) → tally p (a + b) ≡ tally p a + tally (λ e. p (a + e)) b
@@ -169,28 +214,59 @@ tally-append p a (suc b) =
     let h = tally-append p a b in
     ap (tally p) e ∙ omega (arith, h)
 
-word-count : (m : List ℕ) (k : ℕ) → getD m (3 + k) 0 < 2 ^ 64 → tally (λ e. isChanged m (64 * k + e)) 64 ≡ ones (getD m (3 + k) 0)
-word-count m k h = sym (ones-mask (isChanged m) 64 (64 * k)) ∙ ap ones (changed-mask m k h)
-
-pub count-words : (m : List ℕ) → getD m 3 0 < 2 ^ 64 → getD m 4 0 < 2 ^ 64 → getD m 5 0 < 2 ^ 64 → ones (getD m 3 0) + ones (getD m 4 0) + ones (getD m 5 0) ≡ tally (isChanged m) 192
-count-words m a b c =
-    let x = word-count m 0 a in
-    let y = word-count m 1 b in
-    let z = word-count m 2 c in
-    let u : tally (isChanged m) 192 ≡ tally (isChanged m) 128 + tally (λ e. isChanged m (64 * 2 + e)) 64 = tally-append (isChanged m) 128 64 in
-    let v : tally (isChanged m) 128 ≡ tally (isChanged m) 64 + tally (λ e. isChanged m (64 * 1 + e)) 64 = tally-append (isChanged m) 64 64 in
-    let w : tally (isChanged m) 64 ≡ tally (λ e. isChanged m (64 * 0 + e)) 64 = tally-ext (isChanged m) (λ e. isChanged m (64 * 0 + e)) 64 (λ e l. ap (isChanged m) (start e)) in
-    sym (u ∙ ap₂ (λ (i j : ℕ). i + j) (v ∙ ap₂ (λ (i j : ℕ). i + j) (w ∙ x) y) z)
+-- of the 192, word by word
+pub tally-words : (p : ℕ → Bool) → tally p 192 ≡ tally (λ e. p (64 * 0 + e)) 64 + tally (λ e. p (64 * 1 + e)) 64 + tally (λ e. p (64 * 2 + e)) 64
+tally-words p =
+    let u : tally p 192 ≡ tally p 128 + tally (λ e. p (64 * 2 + e)) 64 = tally-append p 128 64 in
+    let v : tally p 128 ≡ tally p 64 + tally (λ e. p (64 * 1 + e)) 64 = tally-append p 64 64 in
+    let w : tally p 64 ≡ tally (λ e. p (64 * 0 + e)) 64 = tally-ext p (λ e. p (64 * 0 + e)) 64 (λ e l. ap p (start e)) in
+    u ∙ ap (λ (n : ℕ). n + tally (λ e. p (64 * 2 + e)) 64) (v ∙ ap (λ (n : ℕ). n + tally (λ e. p (64 * 1 + e)) 64) w)
   where
     start : (e : ℕ) → e ≡ 64 * 0 + e
     start e = omega arith
+
+word-count : (m : List ℕ) (k : ℕ) → getD m (3 + k) 0 < 2 ^ 64 → ones (getD m (3 + k) 0) ≡ tally (λ e. isChanged m (64 * k + e)) 64
+word-count m k h = sym (ap ones (changed-mask m k h)) ∙ ones-mask (isChanged m) 64 (64 * k)
+
+pub count-words : (m : List ℕ) → getD m 3 0 < 2 ^ 64 → getD m 4 0 < 2 ^ 64 → getD m 5 0 < 2 ^ 64 → ones (getD m 3 0) + ones (getD m 4 0) + ones (getD m 5 0) ≡ tally (isChanged m) 192
+count-words m a b c =
+    ap₂ (λ (i j : ℕ). i + j) (ap₂ (λ (i j : ℕ). i + j) (word-count m 0 a) (word-count m 1 b)) (word-count m 2 c) ∙ sym (tally-words (isChanged m))
 
 -- ---- the code's sums fit
 pub zeros-fit : (n : ℕ) → leadingZeros 64 n < 2 ^ 64
 zeros-fit n = omega (arith, leading-le 64 n)
 
-pub place-fits : (i n : ℕ) → i < 384 → i - i % 64 + leadingZeros 64 n < 2 ^ 64
-place-fits i n h = omega (arith, leading-le 64 n)
+pub place-fits : (start n : ℕ) → start < 384 → start + leadingZeros 64 n < 2 ^ 64
+place-fits start n h = omega (arith, leading-le 64 n)
+
+module _ (left : ℕ) (h : left < 2 ^ 64) (p : 0 < left) where
+  pub zeros-below : leadingZeros 64 left ≤ 63
+  zeros-below = let t = leading-top 64 left p h in omega (arith, t .1)
+
+  -- what is left without its first mark
+  pub top-cleared : (start : ℕ) → record { at = start + leadingZeros 64 left; left = bitXor left (1 * 2 ^ (63 - leadingZeros 64 left) % 2 ^ 64) } ≡ topMark start left
+  top-cleared start = go (leading-top 64 left p h)
+    where
+      none : (n j : ℕ) → 0 * 2 ^ j + n ≡ n
+      none n j = ap (λ (m : ℕ). m + n) (zero-mul (2 ^ j)) ∙ zero-add n
+
+      go : ((j : ℕ) × (leadingZeros 64 left + suc j ≡ 64) × (2 ^ j ≤ left) × (left < 2 ^ suc j))
+          → record { at = start + leadingZeros 64 left; left = bitXor left (1 * 2 ^ (63 - leadingZeros 64 left) % 2 ^ 64) } ≡ topMark start left
+      go (j, z, a, b) =
+          let q : 63 - leadingZeros 64 left ≡ j = omega arith in
+          let r : left - 2 ^ j < 2 ^ j = omega (arith, pow-suc 2 j) in
+          let s : left ≡ 1 * 2 ^ j + (left - 2 ^ j) = omega arith in
+          let t : 1 * 2 ^ j ≡ 1 * 2 ^ j + 0 = omega arith in
+          ap (λ (n : ℕ). record { at = start + leadingZeros 64 left; left = n })
+          (ap (λ (n : ℕ). bitXor left (1 * 2 ^ n % 2 ^ 64)) q ∙ ap (bitXor left) (one-shifted j (omega arith) ∙ sym (one-mul (2 ^ j)))
+          ∙ ap₂ bitXor s t ∙ xor-block j 1 1 (left - 2 ^ j) 0 r (pow-pos j) ∙ ap₂ (λ (x y : ℕ). x * 2 ^ j + y) (xor-self 1) (xor-zero-r (left - 2 ^ j)) ∙ none (left - 2 ^ j) j
+          ∙ sym (ap (λ (n : ℕ). left % 2 ^ n) q ∙ ap (λ (n : ℕ). n % 2 ^ j) s ∙ low 1 j r))
+
+pub marks-few : (w x : ℕ) → w < 2 ^ 64 → ones (bitAnd w x) ≤ 64
+marks-few w x h = ones-le 64 (bitAnd w x) (within (and-le-l w x))
+  where
+    within : bitAnd w x ≤ w → bitAnd w x < 2 ^ 64
+    within l = omega arith
 
 pub ones-few : (m : List ℕ) (i : ℕ) → getD m i 0 < 2 ^ 64 → ones (getD m i 0) ≤ 64
 ones-few m i h = ones-le 64 (getD m i 0) h

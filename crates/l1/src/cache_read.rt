@@ -1,7 +1,7 @@
 // A read of one element into a lent buffer: from the cache where it is valid, else from get state, and then it is kept.
-use super::caches::is_readable;
 use super::marks::is_marked;
-use super::value::element_of;
+use super::named::readable_cell;
+use super::value::copy_value;
 use super::value::judge_element;
 use super::value::keep_value;
 use admission::Admission;
@@ -10,15 +10,14 @@ use answer::Call;
 use answer::refusal;
 use answer::registers_of;
 use answer::success;
-use elements::number_of;
-use octets::copy;
+use elements::Cell;
 use state::get_element;
 ghost use mathlib.Core.Path.{_≡_};
 ghost use mathlib.Core.Bool.{true};
 ghost use lib.ListN.{length};
 ghost use Rattle.answer.specs.Answer.{told, accepted};
 ghost use Rattle.store.specs.Layout.{small};
-ghost use Rattle.exits.specs.Exits.{elementOf};
+ghost use Rattle.elements.specs.Cells.{cellOf};
 ghost use Rattle.state.specs.State.{gotElement};
 ghost use Rattle.l1.specs.Marks.{isReadable};
 ghost use Rattle.l1.specs.Cache.{ReadOutcome, fetched, readCache};
@@ -38,16 +37,17 @@ fn fetch(
     values: &mut [u8],
     marks: &mut [u64],
     id: u16,
+    x: Cell,
     value: &mut [u8],
 ) -> Answer
-    requires { ⌜ (isReadable id ≡ true) × (length (now values) ≡ 1820) × (length (now marks) ≡ 6) × (length (now value) ≡ elementOf id .size) ⌝ }
+    requires { ⌜ (isReadable id ≡ true) × (length (now values) ≡ 1820) × (length (now marks) ≡ 6) × (length (now value) ≡ x .size) × (x ≡ cellOf id) ⌝ }
     ensures { λ r. ⌜ _≡_ {A = ReadOutcome} (record { answer = r; cache = record { values = now (values .exit); marks = now (marks .exit) }; value = now (value .exit) }) (fetched (record { values = now (values .entry); marks = now (marks .entry) }) id (length (now (value .entry))) (gotElement (now (store .entry)) guest vcpu id (now (value .entry)))) ⌝ }
 {
     let answer = get_element(store, guest, vcpu, id, value);
     if !is_accepted(Call::CacheRead, answer) {
         return answer;
     }
-    keep_value(values, marks, id, value);
+    keep_value(values, marks, x, value);
     answer
 }
 
@@ -59,16 +59,16 @@ fn read_value(
     values: &mut [u8],
     marks: &mut [u64],
     id: u16,
+    x: Cell,
     value: &mut [u8],
 ) -> Answer
-    requires { ⌜ (isReadable id ≡ true) × (length (now values) ≡ 1820) × (length (now marks) ≡ 6) × (length (now value) ≡ elementOf id .size) ⌝ }
+    requires { ⌜ (isReadable id ≡ true) × (length (now values) ≡ 1820) × (length (now marks) ≡ 6) × (length (now value) ≡ x .size) × (x ≡ cellOf id) ⌝ }
     ensures { λ r. ⌜ _≡_ {A = ReadOutcome} (record { answer = r; cache = record { values = now (values .exit); marks = now (marks .exit) }; value = now (value .exit) }) (readValue (now (store .entry)) guest vcpu (record { values = now (values .entry); marks = now (marks .entry) }) id (now (value .entry))) ⌝ }
 {
-    if !is_marked(marks, number_of(id)) {
-        return fetch(store, guest, vcpu, values, marks, id, value);
+    if !is_marked(marks, x.number) {
+        return fetch(store, guest, vcpu, values, marks, id, x, value);
     }
-    let x = element_of(id);
-    copy(values, x.position, value, 0, x.size);
+    copy_value(values, x.position, value, 0, x.size);
     success(0)
 }
 
@@ -83,9 +83,10 @@ pub fn read(
 ) -> Answer
     ensures { λ r. ⌜ _≡_ {A = ReadOutcome} (record { answer = r; cache = record { values = now (values .exit); marks = now (marks .exit) }; value = now (value .exit) }) (readCache small (now (store .entry)) guest vcpu (record { values = now (values .entry); marks = now (marks .entry) }) id (now (value .entry))) ⌝ }
 {
-    match judge_element(values, marks, is_readable(id), id, value) {
+    let x = readable_cell(id);
+    match judge_element(values, marks, x.size, value) {
         Admission::Refused(fault) => return refusal(fault),
         Admission::Admitted => {}
     }
-    read_value(store, guest, vcpu, values, marks, id, value)
+    read_value(store, guest, vcpu, values, marks, id, x, value)
 }

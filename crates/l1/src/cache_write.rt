@@ -1,5 +1,5 @@
 // A write of one element: its value is kept, valid and changed, until the next run sends it.
-use super::caches::is_input;
+use super::named::input_cell;
 use super::value::change_value;
 use super::value::judge_element;
 use admission::Admission;
@@ -12,10 +12,11 @@ ghost use Rattle.l1.specs.Cache.{WriteOutcome, writeCache};
 pub fn write(values: &mut [u8], marks: &mut [u64], id: u16, value: &[u8]) -> Answer
     ensures { λ r. ⌜ _≡_ {A = WriteOutcome} (record { answer = r; cache = record { values = now (values .exit); marks = now (marks .exit) } }) (writeCache (record { values = now (values .entry); marks = now (marks .entry) }) id (now (value .entry))) ⌝ }
 {
-    match judge_element(values, marks, is_input(id), id, value) {
+    let x = input_cell(id);
+    match judge_element(values, marks, x.size, value) {
         Admission::Refused(fault) => return refusal(fault),
         Admission::Admitted => {}
     }
-    change_value(values, marks, id, value);
+    change_value(values, marks, x, value);
     success(0)
 }

@@ -57,7 +57,8 @@ pub fn is_readable(id: u16) -> bool
     allowed(Usage::ThreadGet, id)
 }
 
-// The 64 marks of word k, valid and changed, at once: every write, read and run judges all 192.
+// The 64 marks of word k, valid and changed, at once: every write, read and run judges all 192. A word after the other: two in one
+// load would wait for the mark that the last write stored.
 fn word_good(marks: &[u64], k: usize) -> bool
     requires { ⌜ (length (now marks) ≡ 6) × (k < 3) ⌝ }
     ensures { λ r. ⌜ r ≡ every (markGood (record { values = []; marks = now (marks .entry) })) 64 (64 * k) ⌝ }
@@ -78,5 +79,11 @@ pub fn good_cache(values: &[u8], marks: &[u64]) -> bool
     if marks.len() != 6 {
         return false;
     }
-    word_good(marks, 0) & word_good(marks, 1) & word_good(marks, 2)
+    if !word_good(marks, 0) {
+        return false;
+    }
+    if !word_good(marks, 1) {
+        return false;
+    }
+    word_good(marks, 2)
 }

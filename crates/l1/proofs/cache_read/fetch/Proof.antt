@@ -1,11 +1,11 @@
 -- By the answer of get state.
-use Rattle.l1.proofs.Reading.{readable-permits, readable-some, readable-number, fetch-refused, fetch-kept}
+use Rattle.l1.proofs.Reading.{readable-permits, readable-some, read-within, read-size, fetch-refused, fetch-kept}
 use borrow.Author.Needs.{needs}
 use Rattle.l1.proofs.cache_read.fetch.Statement.{statement}
 use Rattle.l1.proofs.cache_read.fetch.Tie as tie
 
 get-element-requires : tie.Need-get-element-requires
-get-element-requires c κs = (search (needs, readable-permits), search (needs, readable-some), search needs)
+get-element-requires c κs = (search (needs, readable-permits), search (needs, readable-some), search (needs, read-size))
 
 is-accepted-requires : tie.Need-is-accepted-requires
 is-accepted-requires c κs = search needs
@@ -17,7 +17,7 @@ returns : tie.Need-returns
 returns c = search (needs, fetch-refused)
 
 keep-value-requires : tie.Need-keep-value-requires
-keep-value-requires c κs = (search (needs, readable-number), search needs, search needs, search needs)
+keep-value-requires c κs = (search (needs, read-within), search needs, search needs, search needs)
 
 same-length-2 : tie.Need-same-length-2
 same-length-2 c = search needs

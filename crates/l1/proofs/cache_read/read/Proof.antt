@@ -1,5 +1,5 @@
 -- By the tests.
-use Rattle.l1.proofs.Values.{admitted-values, admitted-marks, admitted-size, admitted-readable}
+use Rattle.l1.proofs.Values.{admitted-values, admitted-marks, admitted-size, admitted-good, admitted-cell}
 use Rattle.l1.proofs.Reading.{read-bad, read-good}
 use Rattle.admission.specs.declared.Admission.the-variants.{Admitted}
 use mathlib.Core.Path.{_≡_}
@@ -7,8 +7,8 @@ use borrow.Author.Needs.{needs}
 use Rattle.l1.proofs.cache_read.read.Statement.{statement}
 use Rattle.l1.proofs.cache_read.read.Tie as tie
 
-is-readable-requires : tie.Need-is-readable-requires
-is-readable-requires c κs = search needs
+readable-cell-requires : tie.Need-readable-cell-requires
+readable-cell-requires c κs = search needs
 
 judge-element-requires : tie.Need-judge-element-requires
 judge-element-requires c κs = search needs
@@ -36,9 +36,10 @@ enum-told c = search needs
 
 read-value-requires : tie.Need-read-value-requires
 read-value-requires c κs =
+    let e = c .before .before .before .before .before .before .before .before .before .readable-cell .ensures in
     let q = c .before .before .before .before .before .judge-element .ensures in
     let a : c .before .before .before .before .before .judge-element .result ≡ Admitted = search needs in
-    (admitted-readable _ _ _ _ _ _ q a (c .before .before .before .before .before .before .before .is-readable .ensures), admitted-values _ _ _ _ _ _ q a, admitted-marks _ _ _ _ _ _ q a, admitted-size _ _ _ _ _ _ q a)
+    (admitted-good _ _ _ _ _ _ e _ q a, admitted-values _ _ _ _ _ _ e _ q a, admitted-marks _ _ _ _ _ _ e _ q a, admitted-size _ _ _ _ _ _ e _ q a, admitted-cell _ _ _ _ _ _ e _ q a)
 
 same-length-4 : tie.Need-same-length-4
 same-length-4 c = search needs
@@ -56,7 +57,7 @@ pub read-spec : {M : Type 1} → statement M
 read-spec =
     tie.close
     (tie.spec
-    is-readable-requires
+    readable-cell-requires
     judge-element-requires
     enum-known-fault
     refusal-requires

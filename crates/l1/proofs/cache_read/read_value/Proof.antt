@@ -1,11 +1,8 @@
 -- By the valid mark.
-use Rattle.l1.proofs.Reading.{mark-below, value-from, value-to, value-fetched, value-valid}
+use Rattle.l1.proofs.Reading.{mark-below, value-sized, value-from, value-fetched, value-valid}
 use borrow.Author.Needs.{needs}
 use Rattle.l1.proofs.cache_read.read_value.Statement.{statement}
 use Rattle.l1.proofs.cache_read.read_value.Tie as tie
-
-number-of-requires : tie.Need-number-of-requires
-number-of-requires c κs = search needs
 
 is-marked-requires : tie.Need-is-marked-requires
 is-marked-requires c κs = (search needs, search (needs, mark-below))
@@ -25,11 +22,8 @@ same-length-3 c = search needs
 returns : tie.Need-returns
 returns c = search (needs, value-fetched)
 
-element-of-requires : tie.Need-element-of-requires
-element-of-requires c κs = search needs
-
-copy-requires : tie.Need-copy-requires
-copy-requires c κs = (search (needs, value-from), search (needs, value-to))
+copy-value-requires : tie.Need-copy-value-requires
+copy-value-requires c κs = (search (needs, value-sized), search (needs, value-from), search needs)
 
 success-requires : tie.Need-success-requires
 success-requires c κs = search needs
@@ -50,15 +44,13 @@ pub read-value-spec : {M : Type 1} → statement M
 read-value-spec =
     tie.close
     (tie.spec
-    number-of-requires
     is-marked-requires
     fetch-requires
     same-length
     same-length-2
     same-length-3
     returns
-    element-of-requires
-    copy-requires
+    copy-value-requires
     success-requires
     same-length-4
     same-length-5

@@ -1,11 +1,11 @@
 -- By the tests.
-use Rattle.l1.proofs.Values.{admitted-values, admitted-marks, admitted-size, admitted-input, write-bad, write-done}
+use Rattle.l1.proofs.Values.{admitted-values, admitted-marks, admitted-size, write-within, write-bad, write-done}
 use borrow.Author.Needs.{needs}
 use Rattle.l1.proofs.cache_write.write.Statement.{statement}
 use Rattle.l1.proofs.cache_write.write.Tie as tie
 
-is-input-requires : tie.Need-is-input-requires
-is-input-requires c κs = search needs
+input-cell-requires : tie.Need-input-cell-requires
+input-cell-requires c κs = search needs
 
 judge-element-requires : tie.Need-judge-element-requires
 judge-element-requires c κs = search needs
@@ -29,7 +29,7 @@ enum-told : tie.Need-enum-told
 enum-told c = search needs
 
 change-value-requires : tie.Need-change-value-requires
-change-value-requires c κs = (search (needs, admitted-input), search (needs, admitted-values), search (needs, admitted-marks), search (needs, admitted-size))
+change-value-requires c κs = (search (needs, write-within), search (needs, admitted-values), search (needs, admitted-marks), search (needs, admitted-size))
 
 success-requires : tie.Need-success-requires
 success-requires c κs = search needs
@@ -47,7 +47,7 @@ pub write-spec : {M : Type 1} → statement M
 write-spec =
     tie.close
     (tie.spec
-    is-input-requires
+    input-cell-requires
     judge-element-requires
     enum-known-fault
     refusal-requires

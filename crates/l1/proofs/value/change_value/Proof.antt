@@ -7,9 +7,6 @@ use Rattle.l1.proofs.value.change_value.Tie as tie
 keep-value-requires : tie.Need-keep-value-requires
 keep-value-requires c κs = search needs
 
-number-of-requires : tie.Need-number-of-requires
-number-of-requires c κs = search needs
-
 add-set-mark : tie.Need-add-set-mark
 add-set-mark c = search needs
 
@@ -28,11 +25,4 @@ returns c = search (needs, kept-changed)
 pub change-value-spec : {M : Type 1} → statement M
 change-value-spec =
     tie.close
-    (tie.spec
-    keep-value-requires
-    number-of-requires
-    add-set-mark
-    set-mark-requires
-    same-length
-    same-length-2
-    returns)
+    (tie.spec keep-value-requires add-set-mark set-mark-requires same-length same-length-2 returns)

@@ -16,9 +16,6 @@ returns-2 c = search (needs, element-long)
 returns-3 : tie.Need-returns-3
 returns-3 c = search (needs, element-id)
 
-element-of-requires : tie.Need-element-of-requires
-element-of-requires c κs = search needs
-
 returns-4 : tie.Need-returns-4
 returns-4 c = search (needs, element-size)
 
@@ -27,12 +24,4 @@ returns-5 c = search (needs, element-good)
 
 pub judge-element-spec : {M : Type 1} → statement M
 judge-element-spec =
-    tie.close
-    (tie.spec
-    good-cache-requires
-    returns
-    returns-2
-    returns-3
-    element-of-requires
-    returns-4
-    returns-5)
+    tie.close (tie.spec good-cache-requires returns returns-2 returns-3 returns-4 returns-5)

@@ -1,12 +1,12 @@
--- At mark i the elements before it are written (`walk-put`).
-use Rattle.l1.proofs.Pending.{reached, mark-here, mark-next, walk-start, walk-at, walk-room, walk-put, put-start, put-end, element-inside, element-small}
+-- At a mark the elements before it are written (`walk-put`).
+use Rattle.l1.proofs.Pending.{reached, mark-here, mark-left, mark-above, mark-within, walk-start, walk-at, walk-room, walk-put, put-start, put-end, element-inside, element-small}
 use Rattle.octets.specs.Bytes.{put}
 use Rattle.gsb.specs.Message.{elementsBytes}
 use Rattle.exits.specs.Exits.{weigh, valued}
 use Rattle.store.specs.Search.{first}
 use Rattle.l1.specs.Marks.{isMarked}
 use Rattle.l1.specs.Cache.{chosen}
-use Rattle.l1.specs.Private.{isChanged}
+use Rattle.l1.specs.Private.{isChanged, behind}
 use Prim.Native.Nat.{_+_, _-_, _≤_}
 use lib.ListN.{length}
 use mathlib.Core.Path.{_≡_}
@@ -15,16 +15,16 @@ use Rattle.l1.proofs.flush.input.put_changed.Statement.{statement}
 use Rattle.l1.proofs.flush.input.put_changed.Tie as tie
 
 abbrev Inv-loop : tie.InvT-loop
-Inv-loop values marks input₀ at₀ i₀ input at i = (192 ≤ i) × (i ≤ 384) × (i ≡ first (isMarked marks) (384 - i) i) × (at ≡ 4 + weigh (chosen (isChanged marks) (reached i))) × (length input ≡ length input₀) × (input ≡ put input₀ 4 (elementsBytes (valued 0 values (chosen (isChanged marks) (reached i)))))
+Inv-loop values marks input₀ at₀ mark₀ input at mark = (192 ≤ mark .at) × (mark .at ≤ 384) × (mark .left ≡ behind marks (mark .at)) × (mark .at ≡ first (isMarked marks) (384 - mark .at) (mark .at)) × (at ≡ 4 + weigh (chosen (isChanged marks) (reached (mark .at)))) × (length input ≡ length input₀) × (input ≡ put input₀ 4 (elementsBytes (valued 0 values (chosen (isChanged marks) (reached (mark .at))))))
 
 abbrev μ-loop : tie.MeasureT-loop
-μ-loop values marks input₀ at₀ i₀ input at i = 384 - i
+μ-loop values marks input₀ at₀ mark₀ input at mark = 384 - mark .at
 
-next-mark-requires : tie.Need-next-mark-requires Inv-loop μ-loop
-next-mark-requires c κs = search needs
+mark-from-requires : tie.Need-mark-from-requires Inv-loop μ-loop
+mark-from-requires c κs = search needs
 
 loop-holds : tie.Need-loop-holds Inv-loop μ-loop
-loop-holds c = (search needs, search needs, search (needs, mark-here), search (needs, walk-start), search needs, search (needs, put-start))
+loop-holds c = (search (needs, mark-above), search (needs, mark-within), search (needs, mark-left), search (needs, mark-here), search (needs, walk-start), search needs, search (needs, put-start))
 
 sub-thread-element : tie.Need-sub-thread-element Inv-loop μ-loop
 sub-thread-element c = search needs
@@ -35,17 +35,14 @@ thread-element-requires c κs = search needs
 put-element-requires : tie.Need-put-element-requires Inv-loop μ-loop
 put-element-requires c κs = (search (needs, walk-room), search (needs, element-inside), search (needs, element-small))
 
-add-next-mark : tie.Need-add-next-mark Inv-loop μ-loop
-add-next-mark c = search needs
-
-next-mark-requires-2 : tie.Need-next-mark-requires-2 Inv-loop μ-loop
-next-mark-requires-2 c κs = search needs
+next-mark-requires : tie.Need-next-mark-requires Inv-loop μ-loop
+next-mark-requires c κs = search needs
 
 loop-less : tie.Need-loop-less Inv-loop μ-loop
-loop-less c = search needs
+loop-less c = search (needs, mark-above)
 
 loop-again : tie.Need-loop-again Inv-loop μ-loop
-loop-again c = (search needs, search needs, search (needs, mark-next), search (needs, walk-at), search needs, search (needs, walk-put))
+loop-again c = (search (needs, mark-above), search (needs, mark-within), search (needs, mark-left), search (needs, mark-here), search (needs, walk-at), search needs, search (needs, walk-put))
 
 same-length : tie.Need-same-length Inv-loop μ-loop
 same-length c = search needs
@@ -59,13 +56,12 @@ put-changed-spec =
     (tie.spec
     Inv-loop
     μ-loop
-    next-mark-requires
+    mark-from-requires
     loop-holds
     sub-thread-element
     thread-element-requires
     put-element-requires
-    add-next-mark
-    next-mark-requires-2
+    next-mark-requires
     loop-less
     loop-again
     same-length
