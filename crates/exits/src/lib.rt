@@ -43,25 +43,26 @@ fn row_at(i: usize) -> [u16; 12]
     requires { ⌜ i < 7 ⌝ }
     ensures { λ r. ⌜ r ≡ codes (exitAt i) ⌝ }
 {
+    let rows = EXITS;
     if i == 0 {
-        return EXITS[0];
+        return rows[0];
     }
     if i == 1 {
-        return EXITS[1];
+        return rows[1];
     }
     if i == 2 {
-        return EXITS[2];
+        return rows[2];
     }
     if i == 3 {
-        return EXITS[3];
+        return rows[3];
     }
     if i == 4 {
-        return EXITS[4];
+        return rows[4];
     }
     if i == 5 {
-        return EXITS[5];
+        return rows[5];
     }
-    EXITS[6]
+    rows[6]
 }
 
 // Which row an exit has, or the number of rows.
