@@ -67,8 +67,8 @@ fn scope_of(code: u16) -> Scope
     Scope::Thread
 }
 
-// The one place that reads the constant. Each row is named by a known index: the compiler then keeps no table on the stack, and a
-// scan of the rows becomes order tests.
+// The one place that reads the constant, and once: the check goes through the whole table at each mention. Each row is named by a
+// known index: the compiler then keeps no table on the stack, and a scan of the rows becomes order tests.
 fn codes_at(i: usize) -> [u16; 5]
     requires { ⌜ i < 16 ⌝ }
     ensures { λ r. ⌜ r ≡ codes (rangeAt i) ⌝ }

@@ -38,7 +38,8 @@ const EXITS: [[u16; 12]; 7] = [
     [0x0980, 0, 0, 0, 0, 0, 0, 0, 0, 0, 0, 0],
 ];
 
-// The one place that reads the constant, row by row: an index that is not known would build the whole table on the stack.
+// The one place that reads the constant, once, since the check goes through the whole table at each mention; and row by row, since an
+// index that is not known would build the table on the stack.
 fn row_at(i: usize) -> [u16; 12]
     requires { ⌜ i < 7 ⌝ }
     ensures { λ r. ⌜ r ≡ codes (exitAt i) ⌝ }
