@@ -11,8 +11,10 @@ VENDOR =
 ARGS =
 
 archive = target/staticlib/libadderknot.a
+# The L1 cache, of which the library has nothing for C: only the bench builds it, to measure it.
+cache_archive = target/staticlib/libl1bench.a
 bench = target/bench
-programs = $(addprefix $(bench)/,calls compare count example hand-over score score-vendor shallow speed)
+programs = $(addprefix $(bench)/,cached calls compare count example hand-over score score-vendor shallow speed)
 vendors = $(patsubst bench/mistakes/%.edit,$(bench)/vendor-%.so,$(wildcard bench/mistakes/*.edit)) \
     $(patsubst tests/score/hostile/%.c,$(bench)/hostile-%.so,$(wildcard tests/score/hostile/*.c)) \
     $(bench)/model.so $(bench)/private.so
@@ -120,9 +122,12 @@ kit:
 # rt leaves alone what was built from sources that are as they were, so the times are set here.
 sources = crates.txt $(shell find crates -name '*.rt' -o -name '*.antt')
 
-$(archive): $(sources) | kit compiler
-	rt staticlib adderknot
+$(archive) $(cache_archive): target/staticlib/lib%.a: $(sources) | kit compiler
+	rt staticlib $*
 	touch $@
+
+# One rt at a time.
+$(cache_archive): | $(archive)
 
 target/bin/listing: $(sources) | kit
 	rt check listing
@@ -130,11 +135,13 @@ target/bin/listing: $(sources) | kit
 
 $(bench)/%: bench/%.c $(headers) $(archive)
 	mkdir -p $(bench)
-	$(CC) $(CFLAGS) -Iinclude $(filter %.c,$^) $(archive) $(LDLIBS) -o $@
+	$(CC) $(CFLAGS) -Iinclude $(filter %.c,$^) $(filter %.a,$^) $(LDLIBS) -o $@
 
-$(bench)/calls $(bench)/compare $(bench)/count $(bench)/shallow $(bench)/speed: bench/model.c
+$(bench)/cached $(bench)/calls $(bench)/compare $(bench)/count $(bench)/shallow $(bench)/speed: bench/model.c
+$(bench)/cached $(bench)/count $(bench)/shallow $(bench)/speed: bench/model_cache.c $(cache_archive)
 $(bench)/count $(bench)/shallow $(bench)/speed: bench/cases.c
-$(bench)/compare $(bench)/score $(bench)/shallow: $(night)
+$(bench)/cached $(bench)/compare $(bench)/score $(bench)/shallow: $(night)
+$(bench)/compare: bench/lists.c
 # A first call through the dynamic linker would take its stack.
 $(bench)/shallow: LDLIBS = -Wl,-z,now
 $(bench)/shallow: bench/deep.c bench/depth.c

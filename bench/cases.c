@@ -1,15 +1,17 @@
 /*
  * cases.c: the work that speed.c times and count.c repeats: calls that walk a guest state buffer, those that create and
- * delete, and those that hand a vCPU over.
+ * delete, those that hand a vCPU over, and the operations of the L1 cache.
  */
 #include "cases.h"
 
+#include "adderknot_gsb.h"
+#include "cache.h"
 #include "model.h"
 
 #include <string.h>
 
 /* Where the marks and the values begin in a store, and the values of the last slot. */
-enum { MARKS = 42, VALUES = 44, SLOT_SIZE = 1820, LAST_VALUES = ADK_STORE_SIZE - SLOT_SIZE };
+enum { MARKS = 42, VALUES = 44, GUEST_SIZE = 52, SLOT_SIZE = 1820, LAST_VALUES = ADK_STORE_SIZE - SLOT_SIZE };
 
 /* ---- The two sides ---- */
 
@@ -17,66 +19,131 @@ enum { MARKS = 42, VALUES = 44, SLOT_SIZE = 1820, LAST_VALUES = ADK_STORE_SIZE -
 struct buffer {
     uint8_t bytes[ADK_BUFFER_MAX];
     size_t len;
+    uint32_t pvr; /* only what a guest with this PVR is offered is added */
+};
+
+/* A cache, and a value that is read into or written from. */
+struct cache {
+    uint8_t values[CACHE_VALUES], value[8];
+    uint64_t marks[CACHE_MARKS];
 };
 
 struct party {
     struct l0 on;
+    struct l1 above;
     uint8_t store[ADK_STORE_SIZE];
     struct buffer buffer, effect; /* buffer is a run's input */
     uint8_t output[ADK_BUFFER_MAX];
+    struct cache cache;
+    size_t at, len; /* what a lookup found */
 };
 
-struct party library = { .on = L0_LIBRARY }, model = { .on = L0_MODEL };
+struct party library = { .on = L0_LIBRARY, .above = L1_LIBRARY }, model = { .on = L0_MODEL, .above = L1_MODEL };
 
-static adk_found call_get(struct party *s)
+static adk_answer call_get(struct party *s)
 {
-    return plain(s->on.get_state(s->store, sizeof s->store, 0, GUEST, VCPU, s->buffer.bytes, s->buffer.len));
+    return s->on.get_state(s->store, sizeof s->store, 0, GUEST, VCPU, s->buffer.bytes, s->buffer.len);
 }
 
-static adk_found call_set(struct party *s)
+static adk_answer call_set(struct party *s)
 {
-    return plain(s->on.set_state(s->store, sizeof s->store, 0, GUEST, VCPU, s->buffer.bytes, s->buffer.len));
+    return s->on.set_state(s->store, sizeof s->store, 0, GUEST, VCPU, s->buffer.bytes, s->buffer.len);
 }
 
 /* Both run buffers are registered and lent with the greatest size; the input's count says where it ends. */
-static adk_found call_run(struct party *s)
+static adk_answer call_run(struct party *s)
 {
-    return plain(s->on.run_vcpu(s->store, sizeof s->store, 0, GUEST, VCPU, s->buffer.bytes, sizeof s->buffer.bytes,
-                             s->output, sizeof s->output, s->effect.bytes, s->effect.len, ADK_EXIT_HCALL));
+    return s->on.run_vcpu(s->store, sizeof s->store, 0, GUEST, VCPU, s->buffer.bytes, sizeof s->buffer.bytes,
+                          s->output, sizeof s->output, s->effect.bytes, s->effect.len, ADK_EXIT_HCALL);
 }
 
 /* Three calls. The guest comes back under its number, and its vCPU in the slot that was freed. */
-static adk_found call_anew(struct party *s)
+static adk_answer call_anew(struct party *s)
 {
     adk_answer gone = s->on.delete_guest(s->store, sizeof s->store, 0, GUEST);
     adk_answer guest = s->on.create_guest(s->store, sizeof s->store, 0, ADK_TOKEN);
     adk_answer vcpu = s->on.create_vcpu(s->store, sizeof s->store, 0, guest.r4, VCPU);
-    return (adk_found){ gone.r3 | guest.r3 | vcpu.r3, guest.r4, 0, 0, 0 };
+    return (adk_answer){ gone.r3 | guest.r3 | vcpu.r3, guest.r4, 0 };
 }
 
 /* Values that a vCPU is to have before it is taken, each byte another. */
 static uint8_t values[SLOT_SIZE];
 
 /* The values are put back first, and the mark is taken away, so that each call takes the same. */
-static adk_found call_take(struct party *s)
+static adk_answer call_take(struct party *s)
 {
     memcpy(s->store + LAST_VALUES, values, SLOT_SIZE);
     s->store[MARKS + 1] &= 0xFE;
-    return plain(s->on.get_state(s->store, sizeof s->store, ADK_HAND_OVER, GUEST, VCPU, s->buffer.bytes,
-                                 s->buffer.len));
+    return s->on.get_state(s->store, sizeof s->store, ADK_HAND_OVER, GUEST, VCPU, s->buffer.bytes, s->buffer.len);
 }
 
 /* The mark is set first, so that each call gives back. */
-static adk_found call_give(struct party *s)
+static adk_answer call_give(struct party *s)
 {
     s->store[MARKS + 1] |= 1;
-    return plain(s->on.set_state(s->store, sizeof s->store, ADK_HAND_OVER, GUEST, VCPU, s->buffer.bytes,
-                                 s->buffer.len));
+    return s->on.set_state(s->store, sizeof s->store, ADK_HAND_OVER, GUEST, VCPU, s->buffer.bytes, s->buffer.len);
 }
 
-static adk_found call_lookup(struct party *s)
+static adk_answer call_lookup(struct party *s)
 {
-    return s->on.lookup(s->buffer.bytes, s->buffer.len, ADK_GSID_VSR(63));
+    adk_found f = s->on.lookup(s->buffer.bytes, s->buffer.len, ADK_GSID_VSR(63));
+    s->at = f.at;
+    s->len = f.len;
+    return (adk_answer){ f.r3, f.r4, f.r5 };
+}
+
+/* ---- The cache ---- */
+
+/* The marks of a cache in which nothing is valid, in which GPR 3 is, and in which all that a run input takes is
+   changed: GPR 3 is element 6, and a run input takes elements 2 to 165. */
+static const uint64_t NOTHING[CACHE_MARKS] = { 0 }, GPR3_VALID[CACHE_MARKS] = { ADK_BIT(6) };
+static const uint64_t ALL_CHANGED[CACHE_MARKS] = { UINT64_MAX >> 2, UINT64_MAX, UINT64_MAX << 26,
+                                                   UINT64_MAX >> 2, UINT64_MAX, UINT64_MAX << 26 };
+
+static void put_marks(struct cache *c, const uint64_t *marks)
+{
+    memcpy(c->marks, marks, sizeof c->marks);
+}
+
+static adk_answer call_cache_write(struct party *s)
+{
+    struct cache *c = &s->cache;
+    return s->above.write(c->values, sizeof c->values, c->marks, CACHE_MARKS, ADK_PVR_ARCH_31, ADK_GSID_GPR(3),
+                          c->value, sizeof c->value);
+}
+
+/* GPR 3 is valid in a cache that is prepared, and stays so. */
+static adk_answer call_cache_read(struct party *s)
+{
+    struct cache *c = &s->cache;
+    return s->above.read(s->store, sizeof s->store, GUEST, VCPU, ADK_PVR_ARCH_31, c->values, sizeof c->values,
+                         c->marks, CACHE_MARKS, ADK_GSID_GPR(3), c->value, sizeof c->value);
+}
+
+/* The marks are put back first, so that each call does the same; so in a run. */
+static adk_answer call_read_through(struct party *s)
+{
+    put_marks(&s->cache, NOTHING);
+    return call_cache_read(s);
+}
+
+static adk_answer call_cache_run(struct party *s, const uint64_t *marks)
+{
+    struct cache *c = &s->cache;
+    put_marks(c, marks);
+    return s->above.run(s->store, sizeof s->store, 0, GUEST, VCPU, ADK_PVR_ARCH_31, c->values, sizeof c->values,
+                        c->marks, CACHE_MARKS, s->buffer.bytes, sizeof s->buffer.bytes, s->output,
+                        sizeof s->output, s->effect.bytes, s->effect.len, ADK_EXIT_HCALL);
+}
+
+static adk_answer call_run_none(struct party *s)
+{
+    return call_cache_run(s, NOTHING);
+}
+
+static adk_answer call_run_all(struct party *s)
+{
+    return call_cache_run(s, ALL_CHANGED);
 }
 
 /* ---- Buffers ---- */
@@ -87,10 +154,11 @@ static void put(uint8_t *p, unsigned n, uint64_t v)
         p[n] = (uint8_t)v;
 }
 
-static void begin(struct buffer *b, unsigned count)
+static void begin(struct buffer *b, unsigned count, uint32_t pvr)
 {
     put(b->bytes, 4, count);
     b->len = 4;
+    b->pvr = pvr;
 }
 
 /* Adds an element, with a value in which each byte is another. */
@@ -107,7 +175,8 @@ static void add(struct buffer *b, unsigned id, unsigned size)
 static void add_run(struct buffer *b, unsigned first, unsigned last, unsigned size)
 {
     for (unsigned id = first; id <= last; id++)
-        add(b, id, size);
+        if (adk_element_offered((uint16_t)id, b->pvr))
+            add(b, id, size);
 }
 
 static void add_registration(struct buffer *b, unsigned id)
@@ -137,8 +206,8 @@ static void build_effect(struct buffer *b)
     add_run(b, ADK_GSID_ASDR, ADK_GSID_ASDR, 8);
 }
 
-/* All that a run input takes; the last is VSR 63. */
-static void build_164(struct buffer *b)
+/* All that a run input takes, 164 elements or a POWER9 guest's 155; the last is VSR 63. */
+static void build_input(struct buffer *b)
 {
     add_run(b, 0x0C02, 0x0C02, 8);
     add_run(b, 0x1000, 0x1053, 8);
@@ -155,7 +224,7 @@ static void build_registrations(struct buffer *b)
 static void build_166(struct buffer *b)
 {
     build_registrations(b);
-    build_164(b);
+    build_input(b);
 }
 
 static void build_readable(struct buffer *b)
@@ -174,9 +243,16 @@ static void build_readable(struct buffer *b)
 /* The last ID is one past the list. */
 static void build_bad(struct buffer *b)
 {
-    build_164(b);
+    build_input(b);
     b->len -= 4 + 16;
     add(b, 0x3040, 16);
+}
+
+/* The input that a cache's run writes, with other bytes. */
+static void build_input_room(struct buffer *b)
+{
+    b->len = sizeof b->bytes;
+    memset(b->bytes, 0xEE, b->len);
 }
 
 /* Room for a form. */
@@ -204,17 +280,31 @@ static void build_nops(struct buffer *b)
 /* ---- Cases ---- */
 
 const struct work WORK[] = {
-    { "set state, one GPR", call_set, build_one, 1, 0, ADK_OK, 0 },
-    { "set state, the 164 elements of a run input and both registrations", call_set, build_166, 166, 0, ADK_OK, 0 },
-    { "get state, all 169 readable thread elements", call_get, build_readable, 169, 0, ADK_OK, 0 },
-    { "set state, refused: the last of 164 is bad", call_set, build_bad, 164, 0, ADK_INVALID_ELEMENT_ID, 163 },
-    { "set state, 16,383 empty NOPs", call_set, build_nops, 16383, 0, ADK_OK, 0 },
-    { "lookup, the last of 164", call_lookup, build_164, 164, 0, ADK_OK, 0 },
-    { "run, exit 0xC00, empty input and effect", call_run, build_none, 0, 0, ADK_OK, ADK_EXIT_HCALL },
-    { "run, exit 0xC00, 164 elements of input and 20 of effect", call_run, build_164, 164, 20, ADK_OK, ADK_EXIT_HCALL },
-    { "delete a guest, create it and its vCPU, the other 15 slots in use", call_anew, build_none, 0, 0, ADK_OK, GUEST },
-    { "get state, a vCPU with all 170 values taken", call_take, build_room, 0, 0, ADK_OK, 0 },
-    { "set state, a vCPU with all 170 values given back", call_give, build_form, 0, 0, ADK_OK, 0 },
+    { "set state, one GPR", call_set, build_one, 1, 0, ADK_OK, 0, ANY_PVR },
+    { "set state, the 164 elements of a run input and both registrations",
+      call_set, build_166, 166, 0, ADK_OK, 0, ANY_PVR },
+    { "get state, all 169 readable thread elements", call_get, build_readable, 169, 0, ADK_OK, 0, ANY_PVR },
+    { "set state, refused: the last of 164 is bad", call_set, build_bad, 164, 0, ADK_INVALID_ELEMENT_ID, 163, ANY_PVR },
+    { "set state, 16,383 empty NOPs", call_set, build_nops, 16383, 0, ADK_OK, 0, ANY_PVR },
+    { "lookup, the last of 164", call_lookup, build_input, 164, 0, ADK_OK, 0, ANY_PVR },
+    { "run, exit 0xC00, empty input and effect", call_run, build_none, 0, 0, ADK_OK, ADK_EXIT_HCALL, ANY_PVR },
+    { "run, exit 0xC00, 164 elements of input and 20 of effect",
+      call_run, build_input, 164, 20, ADK_OK, ADK_EXIT_HCALL, ANY_PVR },
+    { "delete a guest, create it and its vCPU, the other 15 slots in use",
+      call_anew, build_none, 0, 0, ADK_OK, GUEST, ANY_PVR },
+    { "get state, a vCPU with all 170 values taken", call_take, build_room, 0, 0, ADK_OK, 0, ANY_PVR },
+    { "set state, a vCPU with all 170 values given back", call_give, build_form, 0, 0, ADK_OK, 0, ANY_PVR },
+    { "set state, POWER9: the 155 elements of its run input",
+      call_set, build_input, 155, 0, ADK_OK, 0, ADK_PVR_ARCH_300 },
+    { "get state, POWER9: all its 160 readable thread elements",
+      call_get, build_readable, 160, 0, ADK_OK, 0, ADK_PVR_ARCH_300 },
+    { "cache, a write of GPR 3", call_cache_write, build_none, 0, 0, ADK_OK, 0, ANY_PVR },
+    { "cache, a read of GPR 3, valid", call_cache_read, build_none, 0, 0, ADK_OK, 0, ANY_PVR },
+    { "cache, a read of GPR 3 through the store", call_read_through, build_none, 0, 0, ADK_OK, 0, ANY_PVR },
+    { "cache, a run, exit 0xC00, none changed",
+      call_run_none, build_input_room, 0, 0, ADK_OK, ADK_EXIT_HCALL, ANY_PVR },
+    { "cache, a run, exit 0xC00, all 164 changed",
+      call_run_all, build_input_room, 0, 0, ADK_OK, ADK_EXIT_HCALL, ANY_PVR },
 };
 
 const size_t WORKS = sizeof WORK / sizeof WORK[0];
@@ -233,21 +323,39 @@ bool fill_store(uint8_t *store)
     for (size_t i = VALUES; i < ADK_STORE_SIZE; i++)
         store[i] = (uint8_t)(101 * i);
     memcpy(values, store + LAST_VALUES, SLOT_SIZE);
-    begin(&both, 2);
+    begin(&both, 2, ANY_PVR);
     build_registrations(&both);
     refused |= adk_set_state(store, ADK_STORE_SIZE, 0, GUEST, VCPU, both.bytes, both.len).r3;
     return refused == 0;
 }
 
+/* Values that differ from each other and from those of the vCPU. */
+static void prepare_cache(struct cache *c)
+{
+    for (size_t i = 0; i < sizeof c->values; i++)
+        c->values[i] = (uint8_t)(71 * i + 3);
+    memset(c->value, 0x3C, sizeof c->value);
+    put_marks(c, GPR3_VALID);
+}
+
+static bool same_cache(const struct cache *a, const struct cache *b)
+{
+    return memcmp(a->values, b->values, sizeof a->values) == 0 && memcmp(a->value, b->value, sizeof a->value) == 0 &&
+           memcmp(a->marks, b->marks, sizeof a->marks) == 0;
+}
+
 static void prepare_side(struct party *s, const uint8_t *store, const struct work *w)
 {
     memcpy(s->store, store, sizeof s->store);
+    if (w->pvr != ANY_PVR)
+        put(s->store + VALUES + GUEST_SIZE * (GUEST - 1), 4, w->pvr);
     memset(s->output, 0xEE, sizeof s->output);
-    begin(&s->buffer, w->count);
+    begin(&s->buffer, w->count, w->pvr);
     w->build(&s->buffer);
-    begin(&s->effect, w->effect);
+    begin(&s->effect, w->effect, w->pvr);
     if (w->effect != 0)
         build_effect(&s->effect);
+    prepare_cache(&s->cache);
 }
 
 void prepare(const uint8_t *store, const struct work *w)
@@ -263,9 +371,10 @@ static bool same_buffer(const struct buffer *a, const struct buffer *b)
 
 bool agree(const struct work *w)
 {
-    adk_found l = w->call(&library), m = w->call(&model);
-    return l.r3 == w->r3 && l.r4 == w->r4 && l.r3 == m.r3 && l.r4 == m.r4 && l.r5 == m.r5 && l.at == m.at &&
-           l.len == m.len && memcmp(library.store, model.store, sizeof model.store) == 0 &&
+    adk_answer l = w->call(&library), m = w->call(&model);
+    return l.r3 == w->r3 && l.r4 == w->r4 && l.r3 == m.r3 && l.r4 == m.r4 && l.r5 == m.r5 &&
+           library.at == model.at && library.len == model.len &&
+           memcmp(library.store, model.store, sizeof model.store) == 0 &&
            same_buffer(&library.buffer, &model.buffer) && same_buffer(&library.effect, &model.effect) &&
-           memcmp(library.output, model.output, sizeof model.output) == 0;
+           memcmp(library.output, model.output, sizeof model.output) == 0 && same_cache(&library.cache, &model.cache);
 }

@@ -9,15 +9,19 @@
 
 #include <stdbool.h>
 
+/* The PVR that a filled store has, which is no logical PVR: the guest is offered all elements. */
+enum { ANY_PVR = 0 };
+
 struct buffer;
 struct party; /* an L0 with its store and its buffers */
 
 struct work {
     const char *name;
-    adk_found (*call)(struct party *s);
+    adk_answer (*call)(struct party *s); /* handed on as it is: to copy it would be timed too */
     void (*build)(struct buffer *b);
     unsigned count, effect; /* how many elements the buffer has, and the effect */
     uint64_t r3, r4;
+    uint32_t pvr; /* the guest's logical PVR, or ANY_PVR */
 };
 
 /* In the store that is filled, the vCPU in the last slot, the only one of its guest: finding it, and testing the store,

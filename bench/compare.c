@@ -11,19 +11,22 @@
  *     unchanged   a refusal changed no lent byte, and no call changed what it may only read
  *     guards      no byte beside lent memory changed
  *     order       each set of faults of a run, of get and set state, and of both hand-overs gave the answer of the one
- *                 that the scope puts first
+ *                 that the scope puts first; once with an unlisted ID, once with one that a POWER9 guest lacks
  *     coverage    each call gave each answer that it can give, 2 with each unsupported bit as r4, and no other; each
  *                 element was read and set where its access permits and refused where not, in a run's input and effect
- *                 too; each edge of a value rule, of a buffer's length and of a registered size was met; each exit was
- *                 accepted, and numbers close to one were refused; the clock was asked for each pair of a TB offset and
- *                 a timebase at their edges; with each bitmap agreed, each and one that is not offered was asked for,
- *                 while guests lived and while none did; each element was present and absent in a form that was taken
- *                 and in one that was given back, forms with just one wrong part were refused for each part, and a
- *                 taken vCPU was met by each call that could mistake it
+ *                 too, for POWER9 guests and for others; what came after POWER9 was refused alone, with another size
+ *                 and as the last of many, and taken with each other sort of PVR; PVRs changed; each edge of a value
+ *                 rule, of a buffer's length and of a registered size was met; each exit was accepted, and numbers
+ *                 close to one were refused; the clock was asked for each pair of a TB offset and a timebase at their
+ *                 edges; with each bitmap agreed, each and one that is not offered was asked for, while guests lived
+ *                 and while none did; each element was present and absent in a form that was taken and in one that was
+ *                 given back, forms with just one wrong part were refused for each part, and a taken vCPU was met by
+ *                 each call that could mistake it
  *
  * The run ends at the first difference.
  */
 #include "chance.h"
+#include "lists.h"
 #include "model.h"
 #include "tell.h"
 
@@ -82,17 +85,19 @@ struct run {
     uint64_t agreed; /* before the call */
     bool named_taken, guest_taken, any_taken; /* before it: the vCPU it names, one of the guest it names, any */
     bool over;                                /* before it: the vCPU it names had bytes that are not zero */
+    enum list list;                           /* before it: that of the guest it names */
     bool quiet;
     uint64_t tally[KIND_COUNT][ANSWERS];
     unsigned with_r4[KIND_COUNT][2];        /* the answers given with r4 0, and with another r4 */
     unsigned with_r5[KIND_COUNT];           /* those given with an r5 that is not 0 */
     uint64_t bad_bits[KIND_COUNT];          /* the bits told as r4 of answer 2 */
     uint32_t lengths[KIND_COUNT];           /* which of its lengths a buffer or an effect had that was judged */
-    uint8_t used[0x10000];                  /* how an ID was used: read, set, or taken by a run */
-    uint8_t refused[KIND_COUNT][ROW_COUNT]; /* the uses for which an ID of the row was refused */
-    bool edges[EDGE_COUNT];                 /* those that were judged as their row says */
-    bool registered[EDGE_COUNT];            /* the same of sizes that a run met */
-    bool lent[2][3];                        /* of input and output: one byte short, as registered, one more */
+    uint8_t used[LISTS][0x10000];           /* how an ID was used: read, set, or taken by a run */
+    uint8_t refused[KIND_COUNT][LISTS][ROW_COUNT]; /* the uses for which an ID of the row was refused */
+    struct lists lists;
+    bool edges[EDGE_COUNT];      /* those that were judged as their row says */
+    bool registered[EDGE_COUNT]; /* the same of sizes that a run met */
+    bool lent[2][3];             /* of input and output: one byte short, as registered, one more */
     bool exits[EXIT_COUNT], no_exits[NO_EXIT_COUNT];
     bool clocks[OFFSET_COUNT][TIMEBASE_COUNT]; /* which pairs the clock was told for */
     bool bitmaps[BITMAP_COUNT][BITMAP_COUNT + 1][2]; /* which was agreed, which asked for, and whether a guest lived */
@@ -161,7 +166,7 @@ static void note_accepted(struct run *r, enum piece p, unsigned access)
 {
     const uint8_t *b = memory[BEFORE][p], *element = b + 4;
     for (uint64_t left = adk_read_be(b, 4); left > 0; left--, element = next_element(element)) {
-        r->used[adk_read_be(element, 2)] |= (uint8_t)access;
+        r->used[r->list][adk_read_be(element, 2)] |= (uint8_t)access;
         if (access == W)
             note_edge(r, element, true);
     }
@@ -174,7 +179,7 @@ static void note_bad(struct run *r, size_t k, const uint8_t *element, unsigned a
     if (value)
         note_edge(r, element, false);
     else if (row != NULL)
-        r->refused[k][row - ROWS] |= (uint8_t)access;
+        r->refused[k][r->list][row - ROWS] |= (uint8_t)access;
 }
 
 static void note_state(struct run *r, const struct call *c, const adk_found *f)
@@ -319,6 +324,8 @@ static void look_before(struct run *r, const struct call *c)
     bool used = slot < ADK_SLOTS;
     const uint8_t *values = s + SLOT_VALUES + SLOT_SIZE * (used ? slot : 0);
     r->agreed = agreed();
+    r->list = list_of(c->n[1]);
+    look_at_lists(&r->lists, c);
     r->named_taken = used && is_marked(slot);
     r->over = used && (values[0] != 0 || memcmp(values, values + 1, SLOT_SIZE - 1) != 0);
     r->guest_taken = r->any_taken = false;
@@ -383,6 +390,7 @@ static void note(struct run *r, const struct call *c, const adk_found *f)
         if (len == lengths->of[i])
             r->lengths[k] |= A(i);
     note_scene(r, c, f);
+    note_lists(&r->lists, c, f);
     if (c->kind->hand != NO_HAND)
         note_hand_over(r, c, f);
     else if (c->kind->access != 0)
@@ -458,7 +466,7 @@ static const adk_found FAULT_ANSWER[FAULTS] = {
 /* Lends a buffer of two elements of 8 bytes, the second at offset 16. */
 static void lend_two(struct call *c, enum piece piece, unsigned first, unsigned second)
 {
-    struct build g = begin_build(piece, 0, false);
+    struct build g = begin_build(piece, 0, false, WHOLE);
     g.len = 4;
     add_element(&g, first, 8);
     add_element(&g, second, 8);
@@ -466,9 +474,15 @@ static void lend_two(struct call *c, enum piece piece, unsigned first, unsigned 
     lend(c, &g);
 }
 
-/* A store with vCPU 0 of guest 1 in the first slot, taken or not, and a call on it; with those of these faults that all
-   calls on a vCPU have. */
-static void lend_faulty(struct call *c, unsigned faults, bool taken)
+/* An ID of 8 bytes that a guest with this list is not offered. */
+static unsigned bad_id(enum list list)
+{
+    return list == POWER9 ? 0x1031 : 0x1054;
+}
+
+/* A store with vCPU 0 of guest 1, of this list, in the first slot, taken or not, and a call on it; with those of these
+   faults that all calls on a vCPU have. */
+static void lend_faulty(struct call *c, unsigned faults, enum list list, bool taken)
 {
     uint8_t *s = memory[BEFORE][STORE];
     memset(s, 0, ADK_STORE_SIZE);
@@ -476,6 +490,7 @@ static void lend_faulty(struct call *c, unsigned faults, bool taken)
     s[ZERO] = (faults & A(ILL_FORMED)) != 0;
     put_word(s, 0, word_of(1, 0));
     put_mark(s, 0, taken);
+    put_pvr(1, list == POWER9 ? ADK_PVR_ARCH_300 : 0);
     c->len[STORE] = ADK_STORE_SIZE;
     c->n[0] = faults & A(FLAG) ? ADK_BIT(3) : 0;
     c->n[1] = faults & A(GUEST) ? 2 : 1;
@@ -483,14 +498,14 @@ static void lend_faulty(struct call *c, unsigned faults, bool taken)
 }
 
 /* A run with these faults, each of which can be there beside the others. */
-static void faulty_run(struct call *c, unsigned faults)
+static void faulty_run(struct call *c, unsigned faults, enum list list)
 {
-    lend_faulty(c, faults, (faults & A(OWNER)) != 0);
+    lend_faulty(c, faults, list, (faults & A(OWNER)) != 0);
     put_registered_size(0, 0x0C00, faults & A(INPUT_UNREGISTERED) ? 3 : 28);
     put_registered_size(0, 0x0C01, faults & A(OUTPUT_UNREGISTERED) ? 123 : 124);
     share(STORE, 0, ADK_STORE_SIZE);
-    lend_two(c, INPUT, 0x1003, faults & A(INPUT_ELEMENT) ? 0x1054 : 0x1004);
-    lend_two(c, EFFECT, 0x1003, faults & A(EFFECT_ELEMENT) ? 0x0C02 : 0xF000);
+    lend_two(c, INPUT, 0x1003, faults & A(INPUT_ELEMENT) ? bad_id(list) : 0x1004);
+    lend_two(c, EFFECT, 0x1003, faults & A(EFFECT_ELEMENT) ? bad_id(list) : 0xF000);
     c->len[OUTPUT] = faults & A(OUTPUT_SHORT) ? 122 : 124;
     if (faults & A(INPUT_SHORT))
         c->len[INPUT] = 2;
@@ -523,12 +538,12 @@ static adk_found state_answer(const struct kind *k, unsigned fault)
 }
 
 /* The buffer holds a form of vCPU 0 without values, or two elements. */
-static void lend_content(struct call *c, bool bad)
+static void lend_content(struct call *c, enum list list, bool bad)
 {
-    struct build g = begin_build(BUFFER, 0, false);
+    struct build g = begin_build(BUFFER, 0, false, WHOLE);
     unsigned good = c->kind->wide ? 0x0004 : 0x1003;
     if (c->kind->hand == NO_HAND) {
-        lend_two(c, BUFFER, good, bad ? 0x1054 : good);
+        lend_two(c, BUFFER, good, bad ? bad_id(list) : good);
         return;
     }
     g.len = c->kind->hand == TAKING ? ADK_FORM_MAX : ADK_FORM_MIN;
@@ -537,12 +552,12 @@ static void lend_content(struct call *c, bool bad)
     lend(c, &g);
 }
 
-static void faulty_state(struct call *c, unsigned faults)
+static void faulty_state(struct call *c, unsigned faults, enum list list)
 {
     bool taken = (faults & A(OWNER)) != 0;
-    lend_faulty(c, faults, c->kind->hand == GIVING ? !taken : taken);
+    lend_faulty(c, faults, list, c->kind->hand == GIVING ? !taken : taken);
     share(STORE, 0, ADK_STORE_SIZE);
-    lend_content(c, (faults & A(CONTENT)) != 0);
+    lend_content(c, list, (faults & A(CONTENT)) != 0);
     if (faults & A(LENGTH))
         c->len[BUFFER] = c->kind->hand == NO_HAND ? 3 : c->kind->hand == TAKING ? ADK_FORM_MAX - 1 : ADK_FORM_MIN - 1;
     if (c->kind->wide)
@@ -554,7 +569,7 @@ static void faulty_state(struct call *c, unsigned faults)
 /* ---- All of them ---- */
 
 /* One set; without a fault that the call can have it is accepted. */
-static int compare_faults(struct run *r, struct call *c, unsigned faults)
+static int compare_faults(struct run *r, struct call *c, unsigned faults, enum list list)
 {
     bool run = is_run(c->kind);
     unsigned first = 0, can = run ? A(FAULTS) - 1 : faults_of(c->kind);
@@ -564,23 +579,29 @@ static int compare_faults(struct run *r, struct call *c, unsigned faults)
     if (first < FAULTS)
         answer = run ? FAULT_ANSWER[first] : state_answer(c->kind, first);
     if (run)
-        faulty_run(c, faults);
+        faulty_run(c, faults, list);
     else
-        faulty_state(c, faults);
+        faulty_state(c, faults, list);
     r->number++;
     return compare_call(r, c, &answer);
 }
 
+static int compare_sets(struct run *r, const struct kind *kind, enum list list)
+{
+    unsigned sets = is_run(kind) ? A(FAULTS) : kind->access != 0 || kind->hand != NO_HAND ? A(STATE_FAULTS) : 0;
+    struct call c = { .kind = kind };
+    for (unsigned faults = 0; faults < sets && r->number < r->calls; faults++)
+        if (compare_faults(r, &c, faults, list) != 0)
+            return 1;
+    return 0;
+}
+
 static int compare_order(struct run *r)
 {
-    for (size_t k = 0; k < KIND_COUNT; k++) {
-        const struct kind *kind = &KINDS[k];
-        unsigned sets = is_run(kind) ? A(FAULTS) : kind->access != 0 || kind->hand != NO_HAND ? A(STATE_FAULTS) : 0;
-        struct call c = { .kind = kind };
-        for (unsigned faults = 0; faults < sets && r->number < r->calls; faults++)
-            if (compare_faults(r, &c, faults) != 0)
+    for (enum list list = 0; list < LISTS; list++)
+        for (size_t k = 0; k < KIND_COUNT; k++)
+            if (compare_sets(r, &KINDS[k], list) != 0)
                 return 1;
-    }
     return 0;
 }
 
@@ -642,41 +663,38 @@ static bool covered(const struct run *r, size_t k)
 static const struct {
     unsigned access;
     const char *missing;
-} USES[] = {
+} WAYS_OF_USE[] = {
     { R, "get_state never read" },
     { W, "set_state never set" },
     { RUN_IN, "run_vcpu never set by its input" },
     { RUN_EFFECT, "run_vcpu never set by its effect" },
 };
 
-/* Whether each element, the NOP too, was used wherever it may be. */
-static bool elements_covered(const struct run *r)
+/* Whether each element, the NOP too, was used wherever it may be by a guest with this list. */
+static bool elements_covered(const struct run *r, enum list list)
 {
     bool all = true;
-    for (size_t u = 0; u < COUNT(USES); u++)
-        for (unsigned id = 0; id <= 0xFFFF; id++) {
-            const struct row *row = row_of(id);
-            unsigned access = id == ADK_GSID_NOP ? ALL : row != NULL ? row->access : 0;
-            if (access & USES[u].access & ~r->used[id]) {
-                printf("  %s 0x%04X\n", USES[u].missing, id);
+    for (size_t u = 0; u < COUNT(WAYS_OF_USE); u++)
+        for (unsigned id = 0; id <= 0xFFFF; id++)
+            if (access_to(list, id) & WAYS_OF_USE[u].access & ~r->used[list][id]) {
+                printf("  %s 0x%04X of %s\n", WAYS_OF_USE[u].missing, id, LIST_NAME[list]);
                 all = false;
             }
-        }
     return all;
 }
 
-/* Whether get and set state, a run's input and its effect refused each row that is of the wrong scope or not
-   permitted. */
-static bool refusals_covered(const struct run *r)
+/* Whether get and set state, a run's input and its effect refused each row that is of the wrong scope, not permitted or
+   not offered. */
+static bool refusals_covered(const struct run *r, enum list list)
 {
     bool all = true;
     for (size_t k = 0; k < KIND_COUNT; k++) {
         unsigned uses = is_run(&KINDS[k]) ? RUN_IN | RUN_EFFECT : KINDS[k].access;
         for (unsigned use = 1; use <= uses; use *= 2)
             for (size_t i = 0; i < ROW_COUNT; i++)
-                if (uses & use && !takes(use, KINDS[k].wide, &ROWS[i]) && !(r->refused[k][i] & use)) {
-                    printf("  %s never refused 0x%04X to 0x%04X%s\n", KINDS[k].name, ROWS[i].first, ROWS[i].last,
-                           use == RUN_EFFECT ? " in an effect" : "");
+                if (uses & use && !takes(use, KINDS[k].wide, list, &ROWS[i]) && !(r->refused[k][list][i] & use)) {
+                    printf("  %s never refused 0x%04X to 0x%04X%s of %s\n", KINDS[k].name, ROWS[i].first,
+                           ROWS[i].last, use == RUN_EFFECT ? " in an effect" : "", LIST_NAME[list]);
                     all = false;
                 }
     }
@@ -788,8 +806,11 @@ static int finish(const struct run *r)
     bool all = true;
     for (size_t k = 0; k < KIND_COUNT; k++)
         all = covered(r, k) && all;
-    all = elements_covered(r) && all;
-    all = refusals_covered(r) && all;
+    for (enum list list = 0; list < LISTS; list++) {
+        all = elements_covered(r, list) && all;
+        all = refusals_covered(r, list) && all;
+    }
+    all = lists_covered(&r->lists) && all;
     all = edges_covered(r) && all;
     all = runs_covered(r) && all;
     all = clocks_covered(r) && all;

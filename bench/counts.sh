@@ -10,11 +10,20 @@ cd "$(dirname "$0")/.."
 program=target/bench/count
 work=$(mktemp -d)
 trap 'rm -rf "$work"' EXIT
-declare -A entries=([library]='adk_*' [model]='mdl_*')
+declare -A prefix=([library]=adk_ [model]=mdl_)
+mapfile -t names < <("$program")
+
+# The entries of a side that are counted in a case. The model's cache makes calls, and those count as part of it.
+entries() {
+    case ${names[$2 - 1]} in
+    cache,*) echo "${prefix[$1]}cache_*" ;;
+    *) echo "${prefix[$1]}*" ;;
+    esac
+}
 
 # So many calls, on a side, of a case; callgrind's file is named after their number.
 profile() {
-    valgrind -q --tool=callgrind --callgrind-out-file="$work/$1" --toggle-collect="${entries[$2]}" --skip-plt=no \
+    valgrind -q --tool=callgrind --callgrind-out-file="$work/$1" --toggle-collect="$(entries "$2" "$3")" --skip-plt=no \
         --compress-strings=no --compress-pos=no "$program" "$2" "$3" "$1"
 }
 
@@ -40,7 +49,6 @@ total() {
 
 table() {
     printf '%5s  %9s  %9s  %s\n' ratio library model case
-    mapfile -t names < <("$program")
     for i in "${!names[@]}"; do
         if ! library=$(total library $((i + 1))) || ! model=$(total model $((i + 1))); then
             echo "counts.sh: not counted: ${names[i]}" >&2

@@ -1,4 +1,7 @@
-/* cover.h: what a night covered: answers, elements, accepted buffers that held nothing but NOPs, and hand-overs. */
+/*
+ * cover.h: what a night covered: answers, elements by the list of the guest, what POWER9 guests were refused, accepted
+ * buffers that held nothing but NOPs, and hand-overs.
+ */
 #ifndef COVER_H
 #define COVER_H
 
@@ -21,7 +24,8 @@ extern const char *const WAY_NAME[WAYS], *const JUDGED_NAME[JUDGED], *const HAND
 
 struct cover {
     uint64_t answers[KIND_COUNT][ANSWERS];
-    uint64_t elements[WAYS][0x10000]; /* how often, by ID; the NOP is not counted */
+    uint64_t elements[LISTS][WAYS][0x10000]; /* how often, by the guest's list and the ID; the NOP is not counted */
+    uint64_t refused[JUDGED][LATER_COUNT];   /* how often a POWER9 guest was refused what it lacks */
     uint64_t accepted[JUDGED], only_nops[JUDGED];
     uint64_t longest[JUDGED]; /* bytes of the longest accepted one, to the end of its last counted element */
     struct handed {
@@ -37,17 +41,21 @@ void add_cover(struct cover *to, const struct cover *from);
 
 /* ---- Questions ---- */
 
-/* Whether an element can be covered in this way, was, and was not though it can be. */
-bool can_be(enum way way, unsigned id);
-bool is_covered(const struct cover *v, enum way way, unsigned id);
-bool is_missed(const struct cover *v, enum way way, unsigned id);
+/* Whether guests with a list can cover an element in this way, did, and did not though they can. The form of a vCPU
+   that is handed over has all elements, whatever the guest is offered. */
+bool can_be(enum list list, enum way way, unsigned id);
+bool is_covered(const struct cover *v, enum list list, enum way way, unsigned id);
+bool is_missed(const struct cover *v, enum list list, enum way way, unsigned id);
 
-typedef bool id_test(const struct cover *v, enum way way, unsigned id);
+typedef bool id_test(const struct cover *v, enum list list, enum way way, unsigned id);
 
-unsigned how_many(const struct cover *v, enum way way, id_test *which);
+unsigned how_many(const struct cover *v, enum list list, enum way way, id_test *which);
 
 /* How many elements can be covered in this way. */
-unsigned how_many_can_be(enum way way);
+unsigned how_many_can_be(enum list list, enum way way);
+
+/* How many of the nine that a POWER9 guest lacks were refused in such a buffer. */
+unsigned how_many_refused(const struct cover *v, enum judged j);
 
 /* Of all buffers. */
 uint64_t all_accepted(const struct cover *v);

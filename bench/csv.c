@@ -36,7 +36,15 @@ static void rows_of_disagreements(FILE *to, const struct figures *f)
     }
 }
 
-static void rows_of_cover(FILE *to, const struct cover *v, struct manner manner)
+/* A measure of guests with the whole list is named by itself, one of POWER9 guests has that before it. */
+static const char *measure_of(enum list list, const char *name)
+{
+    static char measure[32];
+    snprintf(measure, sizeof measure, "%s%s", list == POWER9 ? "POWER9 " : "", name);
+    return measure;
+}
+
+static void rows_of_answers(FILE *to, const struct cover *v, struct manner manner)
 {
     char text[16];
     for (size_t k = 0; k < KIND_COUNT; k++)
@@ -45,12 +53,43 @@ static void rows_of_cover(FILE *to, const struct cover *v, struct manner manner)
                 snprintf(text, sizeof text, "%u", a);
                 row(to, "answer", KINDS[k].name, text, v->answers[k][a]);
             }
-    for (unsigned id = 0; id <= 0xFFFF; id++)
+}
+
+static void rows_of_element(FILE *to, const struct cover *v, unsigned id)
+{
+    char text[16];
+    snprintf(text, sizeof text, "0x%04X", id);
+    for (enum list list = 0; list < LISTS; list++)
         for (enum way way = 0; way < WAYS; way++)
-            if (can_be(way, id)) {
-                snprintf(text, sizeof text, "0x%04X", id);
-                row(to, "element", text, WAY_NAME[way], v->elements[way][id]);
-            }
+            if (can_be(list, way, id))
+                row(to, "element", text, measure_of(list, WAY_NAME[way]), v->elements[list][way][id]);
+}
+
+static void rows_of_refused(FILE *to, const struct cover *v)
+{
+    char text[16];
+    for (int j = 0; j < JUDGED; j++)
+        for (unsigned i = 0; i < LATER_COUNT; i++) {
+            snprintf(text, sizeof text, "0x%04X", later_id(i));
+            row(to, "POWER9 refused", JUDGED_NAME[j], text, v->refused[j][i]);
+        }
+}
+
+static void rows_of_worth(FILE *to, const struct cover *v, enum way way)
+{
+    for (enum list list = 0; list < LISTS; list++) {
+        row(to, "worth", WAY_NAME[way], measure_of(list, "covered"), how_many(v, list, way, is_covered));
+        row(to, "worth", WAY_NAME[way], measure_of(list, "can be"), how_many_can_be(list, way));
+    }
+}
+
+static void rows_of_cover(FILE *to, const struct cover *v, struct manner manner)
+{
+    rows_of_answers(to, v, manner);
+    for (const struct row *r = ROWS; r < ROWS + ROW_COUNT; r++)
+        for (unsigned id = r->first; id <= r->last; id++)
+            rows_of_element(to, v, id);
+    rows_of_refused(to, v);
     for (int j = 0; j < JUDGED; j++) {
         row(to, "buffers", JUDGED_NAME[j], "accepted", v->accepted[j]);
         row(to, "buffers", JUDGED_NAME[j], "only NOPs", v->only_nops[j]);
@@ -61,10 +100,8 @@ static void rows_of_cover(FILE *to, const struct cover *v, struct manner manner)
         row(to, "vCPUs", HAND_NAME[h], "empty", v->handed[h].empty);
         row(to, "vCPUs", HAND_NAME[h], "full", v->handed[h].full);
     }
-    for (enum way way = 0; way < WAYS; way++) {
-        row(to, "worth", WAY_NAME[way], "covered", how_many(v, way, is_covered));
-        row(to, "worth", WAY_NAME[way], "can be", how_many_can_be(way));
-    }
+    for (enum way way = 0; way < WAYS; way++)
+        rows_of_worth(to, v, way);
 }
 
 void csv_score(FILE *to, const struct result *r)

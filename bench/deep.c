@@ -83,7 +83,7 @@ static void lend_buffers(struct call *c)
     if (c->kind->hand != NO_HAND)
         lend_form(c);
     for (int p = 0; p < PIECES; p++) {
-        struct build g = begin_build(p, access_in(c, p), c->kind->wide);
+        struct build g = begin_build(p, access_in(c, p), c->kind->wide, list_of(GUEST));
         if (!is_walked(c, p))
             continue;
         if (longest_buffers)
@@ -135,6 +135,29 @@ static bool hold_nops(struct call *c, enum piece p)
     put_number(c, "id", ADK_GSID_NOP);
     if (p == INPUT)
         end_input(c);
+    return true;
+}
+
+/* The guest becomes a POWER9 one, and the buffers hold what it is offered. */
+static void become_power9(struct call *c)
+{
+    put_pvr(GUEST, ADK_PVR_ARCH_300);
+    lend_buffers(c);
+}
+
+static bool be_power9(struct call *c, enum piece p)
+{
+    if (p == STORE && goes_by_list(c->kind))
+        become_power9(c);
+    return p == STORE && goes_by_list(c->kind);
+}
+
+static bool end_with_later(struct call *c, enum piece p)
+{
+    if (!is_walked(c, p) || !goes_by_list(c->kind))
+        return false;
+    become_power9(c);
+    adk_write_be(last_element(p), 2, ADK_GSID_DAWR1);
     return true;
 }
 
@@ -303,6 +326,7 @@ static const struct change {
 } CHANGES[] = {
     { ADK_OK, NULL, "nothing", NULL, 0, NULL },
     { ADK_OK, NULL, "the most NOPs", NULL, 0, hold_nops },
+    { ADK_OK, NULL, "a POWER9 guest", NULL, 0, be_power9 },
     { ADK_OK, "set_capabilities", "no guest lives", "bitmap", ADK_CAP_POWER9, have_no_guest },
     { ADK_OK, "delete_guest", "all guests", "flags", ADK_DELETE_ALL, NULL },
     { ADK_OK, "run_vcpu", "each flag", "flags", ADK_BIT(0) | ADK_BIT(1) | ADK_BIT(2), NULL },
@@ -324,6 +348,7 @@ static const struct change {
     { ADK_BAD_LENGTH, NULL, "a byte less than the least", NULL, 0, lend_one_too_few },
     { ADK_INVALID_ELEMENT_ID, NULL, "the first ID", NULL, 0, spoil_first_id },
     { ADK_INVALID_ELEMENT_ID, NULL, "the last ID", NULL, 0, spoil_last_id },
+    { ADK_INVALID_ELEMENT_ID, NULL, "a last ID that POWER9 lacks", NULL, 0, end_with_later },
     { ADK_INVALID_ELEMENT_ID, NULL, "an ID that is not there", "id", 0xFFFF, NULL },
     { ADK_INVALID_ELEMENT_SIZE, NULL, "the first size", NULL, 0, spoil_first_size },
     { ADK_INVALID_ELEMENT_SIZE, NULL, "the last size", NULL, 0, spoil_last_size },

@@ -8,22 +8,34 @@
 /* ---- Elements ---- */
 
 const struct row ROWS[] = {
-    { 0x0001, 0x0002, 8, R, true },
-    { 0x0003, 0x0003, 4, RW, true },
-    { 0x0004, 0x0004, 8, RW, true },
-    { 0x0005, 0x0005, 24, RW, true },
-    { 0x0006, 0x0006, 16, RW, true },
-    { 0x0C00, 0x0C01, 16, RW, false },
-    { 0x0C02, 0x0C02, 8, RW | RUN_IN, false },
-    { 0x1000, 0x1039, 8, ALL, false },
-    { 0x103A, 0x103A, 8, W | RUN_IN | RUN_EFFECT, false },
-    { 0x103B, 0x1053, 8, ALL, false },
-    { 0x2000, 0x200E, 4, ALL, false },
-    { 0x3000, 0x303F, 16, ALL, false },
-    { 0xF000, 0xF000, 8, R | RUN_EFFECT, false },
-    { 0xF001, 0xF002, 4, R | RUN_EFFECT, false },
-    { 0xF003, 0xF003, 8, R | RUN_EFFECT, false },
+    { 0x0001, 0x0002, 8, R, true, false },
+    { 0x0003, 0x0003, 4, RW, true, false },
+    { 0x0004, 0x0004, 8, RW, true, false },
+    { 0x0005, 0x0005, 24, RW, true, false },
+    { 0x0006, 0x0006, 16, RW, true, false },
+    { 0x0C00, 0x0C01, 16, RW, false, false },
+    { 0x0C02, 0x0C02, 8, RW | RUN_IN, false, false },
+    { 0x1000, 0x1030, 8, ALL, false, false },
+    { 0x1031, 0x1031, 8, ALL, false, true },
+    { 0x1032, 0x1039, 8, ALL, false, false },
+    { 0x103A, 0x103A, 8, W | RUN_IN | RUN_EFFECT, false, false },
+    { 0x103B, 0x103D, 8, ALL, false, false },
+    { 0x103E, 0x103E, 8, ALL, false, true },
+    { 0x103F, 0x1040, 8, ALL, false, false },
+    { 0x1041, 0x1042, 8, ALL, false, true },
+    { 0x1043, 0x104D, 8, ALL, false, false },
+    { 0x104E, 0x1051, 8, ALL, false, true },
+    { 0x1052, 0x1053, 8, ALL, false, false },
+    { 0x2000, 0x2005, 4, ALL, false, false },
+    { 0x2006, 0x2006, 4, ALL, false, true },
+    { 0x2007, 0x200E, 4, ALL, false, false },
+    { 0x3000, 0x303F, 16, ALL, false, false },
+    { 0xF000, 0xF000, 8, R | RUN_EFFECT, false, false },
+    { 0xF001, 0xF002, 4, R | RUN_EFFECT, false, false },
+    { 0xF003, 0xF003, 8, R | RUN_EFFECT, false, false },
 };
+
+const char *const LIST_NAME[LISTS] = { [WHOLE] = "guests with the whole list", [POWER9] = "POWER9 guests" };
 
 static unsigned any_of(const struct row *row)
 {
@@ -38,9 +50,36 @@ const struct row *row_of(unsigned id)
     return NULL;
 }
 
-bool takes(unsigned access, bool wide, const struct row *row)
+bool takes(unsigned access, bool wide, enum list list, const struct row *row)
 {
-    return row->wide == wide && (row->access & access) != 0;
+    return row->wide == wide && (row->access & access) != 0 && !(list == POWER9 && row->later);
+}
+
+unsigned access_to(enum list list, unsigned id)
+{
+    const struct row *row = row_of(id);
+    if (id == ADK_GSID_NOP)
+        return ALL;
+    return row == NULL || (list == POWER9 && row->later) ? 0 : row->access;
+}
+
+unsigned later_id(unsigned number)
+{
+    const struct row *row = ROWS;
+    for (;; row++) {
+        unsigned n = row->later ? row->last - row->first + 1 : 0;
+        if (number < n)
+            return row->first + number;
+        number -= n;
+    }
+}
+
+unsigned later_number(unsigned id)
+{
+    unsigned number = 0;
+    while (number < LATER_COUNT && later_id(number) != id)
+        number++;
+    return number;
 }
 
 unsigned any_id(void)
@@ -151,9 +190,9 @@ static unsigned any_size(void)
     }
 }
 
-struct build begin_build(enum piece piece, unsigned access, bool wide)
+struct build begin_build(enum piece piece, unsigned access, bool wide, enum list list)
 {
-    return (struct build){ .piece = piece, .access = access, .wide = wide, .b = memory[BEFORE][piece] };
+    return (struct build){ .piece = piece, .access = access, .wide = wide, .list = list, .b = memory[BEFORE][piece] };
 }
 
 void put_count(struct build *g)
@@ -289,7 +328,7 @@ void build_nops(struct build *g)
 /* Whether the call can take these elements now: while no capability is agreed, no logical PVR can be set. */
 static bool takes_now(const struct build *g, const struct row *row)
 {
-    return takes(g->access, g->wide, row) && (row->first != 0x0003 || g->access == R || agreed() != 0);
+    return takes(g->access, g->wide, g->list, row) && (row->first != 0x0003 || g->access == R || agreed() != 0);
 }
 
 /* The rows that the call can take now, as bits; and one of them. */
@@ -342,11 +381,17 @@ static unsigned ruled_id(const struct build *g)
     return g->wide ? 0x0003 : 0x0C00 + below(2);
 }
 
+/* Any ID; for a POWER9 guest often one of those that it lacks. */
+static unsigned odd_id(const struct build *g)
+{
+    return g->list == POWER9 && percent(50) ? later_id(below(LATER_COUNT)) : any_id();
+}
+
 /* An element of which the ID, the size, the value, or several of them are left to chance. */
 static void add_odd(struct build *g)
 {
     unsigned odd = 1 + below(7);
-    unsigned id = odd & 1 ? any_id() : odd & 4 ? ruled_id(g) : taken_id(g);
+    unsigned id = odd & 1 ? odd_id(g) : odd & 4 ? ruled_id(g) : taken_id(g);
     const struct row *row = row_of(id);
     unsigned size = odd & 2 || row == NULL ? any_size() : row->size;
     add_value(g, id, size, !(odd & 4));
@@ -383,6 +428,16 @@ static void build_rows(struct build *g, bool all)
 static void build_all(struct build *g)
 {
     build_rows(g, true);
+}
+
+/* In so many of a hundred buffers of a POWER9 guest a last element that it lacks, of its size or of any. */
+static void add_later(struct build *g, unsigned chance)
+{
+    if (g->list != POWER9 || !percent(chance))
+        return;
+    unsigned id = later_id(below(LATER_COUNT));
+    add_element(g, id, percent(50) ? row_of(id)->size : any_size());
+    put_count(g);
 }
 
 void build_ends(struct build *g)
@@ -427,6 +482,20 @@ void build_registration(struct build *g)
     g->high = g->len;
 }
 
+/* Up to three, of which the last counts; between them at times another element. */
+void build_pvrs(struct build *g)
+{
+    unsigned n = 1 + below(3);
+    g->len = 4;
+    for (unsigned i = 0; i < n; i++) {
+        add_value(g, 0x0003, 4, percent(90));
+        if (percent(20))
+            add_good(g, taken_id(g));
+    }
+    put_count(g);
+    g->high = g->len;
+}
+
 void build_state(struct build *g)
 {
     unsigned style = below(200);
@@ -446,6 +515,7 @@ void build_state(struct build *g)
         build_most(g);
     else
         build_any_bytes(g);
+    add_later(g, style < 150 ? 5 : style < 164 ? 40 : 0);
     g->high = g->len;
     if (style < 166 && percent(20))
         spoil(g);
@@ -458,5 +528,6 @@ void build_run(struct build *g)
         return;
     }
     build_mixed(g, below(16), 0);
+    add_later(g, 8);
     g->high = g->len;
 }

@@ -12,19 +12,32 @@
 /* Read with get state, written with set state, taken in the input of a run, taken in its effect. */
 enum { R = 1, W = 2, RUN_IN = 4, RUN_EFFECT = 8, RW = R | W, ALL = RW | RUN_IN | RUN_EFFECT };
 
-/* The list of adderknot.h apart from the NOP, in runs of equal elements. */
-enum { ROW_COUNT = 15 };
+/* The list of adderknot.h apart from the NOP, in runs of equal elements. later: a POWER9 guest lacks them (02, L7). */
+enum { ROW_COUNT = 25, LATER_COUNT = 9 };
 
 extern const struct row {
     unsigned first, last, size, access;
-    bool wide;
+    bool wide, later;
 } ROWS[ROW_COUNT];
+
+/* What a guest is offered: that whole list, or what POWER9 has of it. */
+enum list { WHOLE, POWER9, LISTS };
+
+/* Whose list it is, as "POWER9 guests". */
+extern const char *const LIST_NAME[LISTS];
 
 /* The row of an ID, or NULL. */
 const struct row *row_of(unsigned id);
 
-/* Whether a call with this access and scope takes the elements of the row. */
-bool takes(unsigned access, bool wide, const struct row *row);
+/* Whether a call with this access and scope takes the elements of the row, for a guest with this list. */
+bool takes(unsigned access, bool wide, enum list list, const struct row *row);
+
+/* What a guest with this list can use an element for; 0 if it is not offered. */
+unsigned access_to(enum list list, unsigned id);
+
+/* The IDs that came after POWER9, by number from 0; and the number of one, or LATER_COUNT. */
+unsigned later_id(unsigned number);
+unsigned later_number(unsigned id);
 
 /* An ID of the list, the NOP, one beside a run of the list, or any. */
 unsigned any_id(void);
@@ -77,13 +90,14 @@ struct build {
     enum piece piece;
     unsigned access; /* what the call asks of an element, and its scope */
     bool wide;
+    enum list list; /* that of the guest */
     uint8_t *b;
     size_t len, high;
     uint32_t count;
     unsigned id[3];
 };
 
-struct build begin_build(enum piece piece, unsigned access, bool wide);
+struct build begin_build(enum piece piece, unsigned access, bool wide, enum list list);
 
 /* Adds an element if it fits; the value keeps old bytes past the first 32. */
 void add_element(struct build *g, unsigned id, unsigned size);
@@ -94,13 +108,14 @@ unsigned taken_id(const struct build *g);
 
 /* A buffer of the IDs in g, for a lookup; one for get or set state; mostly good elements, for a run, so that often
    enough its input and its effect are; good elements to the greatest length; the first and the last of each row that
-   the call takes; run buffers, to register them; NOPs and nothing else. */
+   the call takes; run buffers, to register them; logical PVRs, one behind the other; NOPs and nothing else. */
 void build_buffer(struct build *g);
 void build_state(struct build *g);
 void build_run(struct build *g);
 void build_full(struct build *g);
 void build_ends(struct build *g);
 void build_registration(struct build *g);
+void build_pvrs(struct build *g);
 void build_nops(struct build *g);
 
 #endif

@@ -1,7 +1,7 @@
 /*
  * model.c: the rules of document 01 in plain C, as the requests of 02 amend them. It shares no text with the library,
- * so that a mistake in either shows as a difference. Quoted names are sections of 01; L1, L2, L4 and L12 are requests
- * of 02.
+ * so that a mistake in either shows as a difference. Quoted names are sections of 01; L1, L2, L4, L7 and L12 are
+ * requests of 02.
  */
 #include "model.h"
 
@@ -20,6 +20,7 @@ enum {
     MARKS = 42,
     GUEST_VALUES = 44,
     GUEST_SIZE = 52,
+    PVR = 0,
     TB_OFFSET = 4,
     SLOT_VALUES = 460,
     SLOT_SIZE = 1820,
@@ -103,6 +104,15 @@ static unsigned word(const uint8_t *s, unsigned slot)
 static unsigned guest_of(unsigned w)
 {
     return w >> GUEST_SHIFT & GUEST_MASK;
+}
+
+/* "The guest state buffer", value rules: the logical PVRs. */
+enum { PVR_POWER9 = 0x0F000005, PVR_POWER10 = 0x0F000006 };
+
+/* 02, L7: "the guest's PVR at the start of the call decides". The guest is live. */
+static bool is_power9(const uint8_t *s, uint64_t guest)
+{
+    return load32(s + GUEST_VALUES + GUEST_SIZE * (guest - 1) + PVR) == PVR_POWER9;
 }
 
 /* L1: the taken mark of a slot, a bit of two bytes, slot 0 the most significant. */
@@ -307,6 +317,23 @@ __attribute__((always_inline)) static inline struct element element(unsigned id)
     }
 }
 
+/* 02, L7: a guest whose logical PVR is POWER9's is not offered "what came later". */
+static bool came_later(unsigned id)
+{
+    switch (id) {
+    case 0x1031:
+    case 0x103E:
+    case 0x1041:
+    case 0x1042:
+    case 0x104E:
+    case 0x104F:
+    case 0x1050:
+    case 0x1051:
+    case 0x2006: return true;
+    default: return false;
+    }
+}
+
 /* "The guest state buffer", value rules; capabilities are those agreed. Any other value of any element is good. */
 static bool good_value(unsigned id, const uint8_t *value, uint64_t capabilities)
 {
@@ -315,8 +342,8 @@ static bool good_value(unsigned id, const uint8_t *value, uint64_t capabilities)
     switch (id) {
     case LOGICAL_PVR:
         pvr = load32(value);
-        return (pvr == 0x0F000005 && (capabilities & BIT_0 >> 1) != 0) ||
-               (pvr == 0x0F000006 && (capabilities & BIT_0 >> 2) != 0);
+        return (pvr == PVR_POWER9 && (capabilities & BIT_0 >> 1) != 0) ||
+               (pvr == PVR_POWER10 && (capabilities & BIT_0 >> 2) != 0);
     case RUN_INPUT:
         size = load64(value + 8);
         return size >= 4 && size <= 65536;
@@ -350,9 +377,11 @@ static adk_answer offset_and_index(unsigned r3, struct verdict v)
 /*
  * "The guest state buffer", for each element in turn: a header that does not fit is 7; then the ID, 6; then the size,
  * 7, of which the NOP has any; then 7 if the value runs past the end; then, when setting, the value rule, 8. wanted is
- * the one access that the call asks for. No element that a run takes has a value rule.
+ * the one access that the call asks for. No element that a run takes has a value rule. L7: 6 also for what came later,
+ * where the guest is a POWER9 one; guest-wide none of that is taken anyway.
  */
-static inline struct verdict first_bad(const uint8_t *buffer, size_t len, unsigned wanted, uint64_t capabilities)
+static inline struct verdict first_bad(const uint8_t *buffer, size_t len, unsigned wanted, bool power9,
+                                       uint64_t capabilities)
 {
     uint32_t count = load32(buffer);
     size_t at = 4;
@@ -363,7 +392,7 @@ static inline struct verdict first_bad(const uint8_t *buffer, size_t len, unsign
         unsigned id = header >> 16, size = header & 0xFFFF;
         struct element e = element(id);
         at += 4;
-        if ((e.access & wanted) == 0)
+        if ((e.access & wanted) == 0 || (power9 && came_later(id)))
             return (struct verdict){ 6, index, at - 4 };
         if (size != e.size && id != NOP)
             return (struct verdict){ 7, index, at - 4 };
@@ -427,7 +456,7 @@ static inline adk_answer judge_state(const uint8_t *s, size_t len, uint64_t flag
         return a;
     if (bad_length(buffer_len))
         return answer(5, 0);
-    struct verdict v = first_bad(buffer, buffer_len, wanted, load64(s + CAPABILITIES));
+    struct verdict v = first_bad(buffer, buffer_len, wanted, is_power9(s, guest), load64(s + CAPABILITIES));
     return index_and_offset(v);
 }
 
@@ -692,11 +721,11 @@ static adk_answer judge_lent(const uint8_t *values, size_t input_len, size_t out
 }
 
 /* "Answers", 14, and L4: the place of the first bad element; R4 and R5 are both 0 if the length is bad. */
-static adk_answer judge_effect(const uint8_t *effect, size_t len)
+static adk_answer judge_effect(const uint8_t *effect, size_t len, bool power9)
 {
     if (bad_length(len))
         return answer(14, 0);
-    struct verdict v = first_bad(effect, len, EFFECT, 0);
+    struct verdict v = first_bad(effect, len, EFFECT, power9, 0);
     return v.r3 != 0 ? offset_and_index(14, v) : answer(0, 0);
 }
 
@@ -730,13 +759,14 @@ adk_answer mdl_run_vcpu(uint8_t *store, size_t store_len, uint64_t flags, uint64
     a = judge_lent(values, input_len, output_len);
     if (a.r3 != 0)
         return a;
-    struct verdict v = first_bad(input, registered_size(values, RUN_INPUT), INPUT, 0);
+    bool power9 = is_power9(store, guest);
+    struct verdict v = first_bad(input, registered_size(values, RUN_INPUT), INPUT, power9, 0);
     if (v.r3 != 0)
         return offset_and_index(v.r3, v);
     const struct exit_row *row = exit_row(exit_reason);
     if (row == NULL)
         return answer(13, 0);
-    a = judge_effect(effect, effect_len);
+    a = judge_effect(effect, effect_len, power9);
     if (a.r3 != 0)
         return a;
     apply(values, input);

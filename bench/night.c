@@ -134,12 +134,12 @@ static uint64_t any_flags(uint64_t good)
     return percent(85) ? good : good | bad_flags();
 }
 
-/* One that is offered, which may be equal to the agreed one, smaller or larger; the agreed one; or bits that are not
-   offered, with and without those that are agreed. */
+/* One that is offered, mostly whole so that both logical PVRs can be set; it may be equal to the agreed one, smaller or
+   larger; the agreed one; or bits that are not offered, with and without those that are agreed. */
 static uint64_t any_bitmap(void)
 {
     uint64_t offered = ADK_CAP_POWER9 | ADK_CAP_POWER10;
-    uint64_t good = any64() & offered;
+    uint64_t good = percent(50) ? offered : any64() & offered;
     switch (below(8)) {
     case 0: return any_bit();
     case 1: return percent(50) ? good | any_bit() : agreed() ^ any_bit();
@@ -231,9 +231,15 @@ const uint64_t TIMEBASES[] = {
     UINT64_MAX
 };
 
+/* Where the values of a guest begin; the first is its logical PVR. */
+static size_t guest_at(uint64_t guest)
+{
+    return HEADER + GUEST_SIZE * (guest - 1);
+}
+
 static size_t tb_offset_at(uint64_t guest)
 {
-    return HEADER + GUEST_SIZE * (guest - 1) + TB_OFFSET;
+    return guest_at(guest) + TB_OFFSET;
 }
 
 uint64_t tb_offset(uint64_t guest)
@@ -263,6 +269,23 @@ static void choose_guest_clock(struct call *c)
     c->n[1] = any_timebase(c->n[0]);
 }
 
+/* ---- The list of a guest ---- */
+
+uint32_t pvr_of(uint64_t guest)
+{
+    return guest < 1 || guest > ADK_GUESTS ? 0 : (uint32_t)adk_read_be(memory[BEFORE][STORE] + guest_at(guest), 4);
+}
+
+enum list list_of(uint64_t guest)
+{
+    return pvr_of(guest) == ADK_PVR_ARCH_300 ? POWER9 : WHOLE;
+}
+
+void put_pvr(uint64_t guest, uint32_t pvr)
+{
+    adk_write_be(memory[BEFORE][STORE] + guest_at(guest), 4, pvr);
+}
+
 /* ---- Guest state buffers that are lent ---- */
 
 /* In a night of NOPs every buffer holds nothing else. */
@@ -282,7 +305,7 @@ void lend(struct call *c, const struct build *g)
 
 static void choose_lookup(struct call *c)
 {
-    struct build g = begin_build(BUFFER, 0, false);
+    struct build g = begin_build(BUFFER, 0, false, WHOLE);
     for (size_t i = 0; i < COUNT(g.id); i++)
         g.id[i] = any_id();
     build(&g, build_buffer);
@@ -312,11 +335,13 @@ static void choose_vcpu(struct call *c)
     choose_vcpu_of(c, used_word());
 }
 
-/* Of a taken vCPU the buffer is not looked at; that shows where it is too short. */
-static void shorten_if_taken(struct call *c)
+/* Where 16 is told, of a taken vCPU or on giving back one that is not, the buffer is not looked at; that shows where it
+   is too short. */
+static void shorten_if_wrong_owner(struct call *c)
 {
     unsigned slot = slot_of(c);
-    if (!c->kind->wide && slot < ADK_SLOTS && is_marked(slot) && percent(15))
+    bool wrong = slot < ADK_SLOTS && is_marked(slot) != (c->kind->hand == GIVING);
+    if (!c->kind->wide && wrong && percent(15))
         c->len[BUFFER] = below(4);
 }
 
@@ -328,6 +353,22 @@ static bool registers_now(const struct call *c)
     return manner.opaque && c->kind->access == W && !c->kind->wide && percent(40);
 }
 
+/* A guest's list changes with its logical PVR: so that is set often, mostly where it is none and nobody writes it. */
+static bool sets_pvr_now(const struct call *c)
+{
+    return c->kind->access == W && c->kind->wide && percent(manner.opaque && pvr_of(c->n[1]) == 0 ? 80 : 30);
+}
+
+/* A buffer for a target that is chosen: what it takes goes by the guest's list. */
+static void lend_state(struct call *c)
+{
+    struct build g = begin_build(BUFFER, c->kind->access, c->kind->wide, list_of(c->n[1]));
+    for (size_t i = 0; i < COUNT(g.id); i++)
+        g.id[i] = taken_id(&g);
+    build(&g, registers_now(c) ? build_registration : sets_pvr_now(c) ? build_pvrs : build_state);
+    lend(c, &g);
+}
+
 /* Of one target, with a new buffer or as the last such call was given and left it: so a get reads what a set has just
    set, and a set puts back what a get has read. */
 static void choose_state(struct call *c)
@@ -337,16 +378,12 @@ static void choose_state(struct call *c)
     if (percent(12)) {
         *c = (struct call){ c->kind, { c->len[STORE], last->len[BUFFER] }, { 0, last->n[1], last->n[2] } };
     } else {
-        struct build g = begin_build(BUFFER, c->kind->access, c->kind->wide);
-        for (size_t i = 0; i < COUNT(g.id); i++)
-            g.id[i] = taken_id(&g);
-        build(&g, registers_now(c) ? build_registration : build_state);
-        lend(c, &g);
         choose_vcpu(c);
+        lend_state(c);
         if (c->kind->wide && percent(50))
             c->n[2] = any_number();
     }
-    shorten_if_taken(c);
+    shorten_if_wrong_owner(c);
     c->n[0] = any_flags(0) & ~c->kind->supported;
     if (c->kind->wide)
         c->n[0] |= ADK_GUEST_WIDE | (percent(2) ? ADK_HAND_OVER : 0);
@@ -401,6 +438,7 @@ static void choose_take(struct call *c)
     c->len[BUFFER] = ADK_FORM_MAX + (percent(40) ? 0 : below(200));
     if (percent(25))
         c->len[BUFFER] = percent(40) ? ADK_FORM_MAX - 1 : any_hand_over_length();
+    shorten_if_wrong_owner(c);
     unsigned slot = slot_of(c);
     if (slot < ADK_SLOTS && !is_marked(slot))
         take_made = *c;
@@ -433,7 +471,7 @@ static void lend_form(struct call *c, struct build *g)
 /* Mostly of a taken vCPU: a form that was taken, or one that is built; as it is, or with a part damaged. */
 static void choose_give(struct call *c)
 {
-    struct build g = begin_build(BUFFER, 0, false);
+    struct build g = begin_build(BUFFER, 0, false, WHOLE);
     unsigned w = percent(85) ? word_where(is_marked) : 0;
     lend_store(c);
     choose_vcpu_of(c, w != 0 ? w : used_word());
@@ -448,6 +486,7 @@ static void choose_give(struct call *c)
     else if (percent(5))
         flip_bit(g.b, ADK_FORM_MIN);
     lend_form(c, &g);
+    shorten_if_wrong_owner(c);
 }
 
 /* ---- What a run is given ---- */
@@ -564,14 +603,15 @@ static void lend_run_buffers(struct call *c)
 /* Input and effect share IDs with each other and with the outputs: so it shows which came last. */
 static void choose_run_vcpu(struct call *c)
 {
-    struct build input = begin_build(INPUT, RUN_IN, false), effect = begin_build(EFFECT, RUN_EFFECT, false);
     lend_store(c);
     choose_vcpu(c);
+    enum list list = list_of(c->n[1]);
+    struct build input = begin_build(INPUT, RUN_IN, false, list), effect = begin_build(EFFECT, RUN_EFFECT, false, list);
     c->n[0] = any_flags(any64() & RUN_FLAGS);
     c->n[3] = any_exit();
     for (size_t i = 0; i < COUNT(effect.id); i++) {
         effect.id[i] = percent(60) ? output_id() : taken_id(&effect);
-        input.id[i] = takes(RUN_IN, false, row_of(effect.id[i])) ? effect.id[i] : taken_id(&input);
+        input.id[i] = takes(RUN_IN, false, list, row_of(effect.id[i])) ? effect.id[i] : taken_id(&input);
     }
     build(&input, manner.opaque && percent(5) ? build_full : build_run);
     lend(c, &input);
@@ -712,6 +752,17 @@ static void set_tb_offset(void)
     share(STORE, at, 8);
 }
 
+/* Value bytes are free, so a guest can have any PVR, agreed or not: POWER9's, none, another, one that differs from
+   POWER9's in a bit. */
+static void set_pvr(void)
+{
+    uint64_t guest = 1 + below(ADK_GUESTS);
+    static const uint32_t others[] = { 0, ADK_PVR_ARCH_31, 0x0F000004, 0x0F000007, 0x0500000F, 0xFFFFFFFF };
+    uint32_t other = percent(60) ? others[below(COUNT(others))] : ADK_PVR_ARCH_300 ^ 1u << below(32);
+    put_pvr(guest, percent(50) ? ADK_PVR_ARCH_300 : other);
+    share(STORE, guest_at(guest), 4);
+}
+
 /* A vCPU becomes taken or is no longer: value bytes are free, so one that is taken may have values. */
 static void turn_used_mark(void)
 {
@@ -732,6 +783,8 @@ static void touch_store(void)
         stir_values();
     if (percent(4))
         set_tb_offset();
+    if (percent(4))
+        set_pvr();
 }
 
 /* ---- The table of calls ---- */
@@ -788,6 +841,11 @@ const struct kind KINDS[] = {
 bool is_run(const struct kind *k)
 {
     return k->use[EFFECT] != NOT_LENT;
+}
+
+bool goes_by_list(const struct kind *k)
+{
+    return is_run(k) || (k->access != 0 && !k->wide);
 }
 
 bool tells_place(const struct kind *k, uint64_t answer)

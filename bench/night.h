@@ -46,6 +46,9 @@ extern const struct kind {
 
 bool is_run(const struct kind *k);
 
+/* Whether what the call takes goes by the guest's list: thread get and set state, and run. */
+bool goes_by_list(const struct kind *k);
+
 /* L4: whether an answer of the call tells a bad element's index and offset. A lookup's 6 has none: it tells the count. */
 bool tells_place(const struct kind *k, uint64_t answer);
 bool is_clock(const struct kind *k);
@@ -97,6 +100,11 @@ void put_mark(uint8_t *header, unsigned slot, bool mark);
 
 /* The TB offset of a guest, from 1 to ADK_GUESTS. */
 uint64_t tb_offset(uint64_t guest);
+
+/* The logical PVR of a guest, 0 for a number that is none of a guest; the list that it makes; and one that is put. */
+uint32_t pvr_of(uint64_t guest);
+enum list list_of(uint64_t guest);
+void put_pvr(uint64_t guest, uint32_t pvr);
 
 /* The size in element 0x0C00 or 0x0C01 of a slot. */
 uint64_t registered_size(unsigned slot, unsigned id);

@@ -94,6 +94,15 @@ static void put_cell(FILE *to, uint64_t n)
     fputs("</td>", to);
 }
 
+/* A count that is to be there; 0 is marked. */
+static void put_expected(FILE *to, uint64_t n)
+{
+    if (n == 0)
+        fputs("<td class=\"n zero\">0</td>", to);
+    else
+        put_cell(to, n);
+}
+
 static void put_command(FILE *to, const struct order *o, uint64_t number)
 {
     char command[8192];
@@ -243,10 +252,8 @@ static void put_answers(FILE *to, const struct cover *v, struct manner manner)
                 continue;
             else if (!can_answer(&KINDS[k], a, manner))
                 fputs("<td class=\"no\">&ndash;</td>", to);
-            else if (v->answers[k][a] == 0)
-                fputs("<td class=\"n zero\">0</td>", to);
             else
-                put_cell(to, v->answers[k][a]);
+                put_expected(to, v->answers[k][a]);
         fputs("</tr>\n", to);
     }
     fputs("</table>\n<p class=\"over\">", to);
@@ -260,36 +267,88 @@ static void put_answers(FILE *to, const struct cover *v, struct manner manner)
 
 static void put_ways(FILE *to, const struct cover *v)
 {
-    fputs("<table class=\"half\"><tr><th>Elements</th><th class=\"n\">Covered</th><th class=\"n\">Can be</th>"
-          "<th class=\"n\">Missed</th></tr>\n", to);
+    fputs("<table class=\"half\"><tr><th>Elements</th>", to);
+    for (enum list list = 0; list < LISTS; list++)
+        fprintf(to, "<th colspan=\"3\" class=\"n\">By %s</th>", LIST_NAME[list]);
+    fputs("</tr>\n<tr><th></th>", to);
+    for (enum list list = 0; list < LISTS; list++)
+        fputs("<th class=\"n\">Covered</th><th class=\"n\">Can be</th><th class=\"n\">Missed</th>", to);
+    fputs("</tr>\n", to);
     for (enum way way = 0; way < WAYS; way++) {
         fprintf(to, "<tr class=\"way\"><td>%s</td>", WAY_NAME[way]);
-        put_cell(to, how_many(v, way, is_covered));
-        put_cell(to, how_many_can_be(way));
-        put_cell(to, how_many(v, way, is_missed));
+        for (enum list list = 0; list < LISTS; list++) {
+            put_cell(to, how_many(v, list, way, is_covered));
+            put_cell(to, how_many_can_be(list, way));
+            put_cell(to, how_many(v, list, way, is_missed));
+        }
         fputs("</tr>\n", to);
     }
-    fputs("</table>\n<p class=\"key\"><span><i class=\"yes\"></i>covered</span><span><i class=\"missed\"></i>missed"
-          "</span><span><i class=\"cannot\"></i>cannot be covered</span><span>In each cell from the left: set (by set "
-          "state or a run's input), read, written by an effect, returned by a run, taken with its vCPU, given back."
-          "</span></p>\n", to);
+    fputs("</table>\n", to);
+}
+
+static void put_refused(FILE *to, const struct cover *v)
+{
+    char name[ADK_NAME_SIZE];
+    fprintf(to, "<h3>What POWER9 guests lack</h3>\n<p>How often each of the %d was refused. A marked 0: it was not in "
+                "this night.</p>\n<table class=\"narrow\"><tr><th>Buffer</th>", LATER_COUNT);
+    for (unsigned i = 0; i < LATER_COUNT; i++)
+        fprintf(to, "<th class=\"n\" title=\"0x%04X\">%s</th>", later_id(i),
+                adk_element_name((uint16_t)later_id(i), name));
+    fputs("</tr>\n", to);
+    for (int j = 0; j < JUDGED; j++) {
+        fprintf(to, "<tr class=\"refused\"><td>%s</td>", JUDGED_NAME[j]);
+        for (unsigned i = 0; i < LATER_COUNT; i++)
+            put_expected(to, v->refused[j][i]);
+        fputs("</tr>\n", to);
+    }
+    fputs("</table>\n", to);
+}
+
+static void put_key(FILE *to)
+{
+    fprintf(to, "<p class=\"key\"><span><i class=\"yes\"></i>covered</span><span><i class=\"missed\"></i>missed"
+                "</span><span><i class=\"cannot\"></i>cannot be covered</span><span>In each cell from the left: set "
+                "(by set state or a run's input), read, written by an effect, returned by a run, taken with its vCPU, "
+                "given back; above by %s, below by %s.</span></p>\n", LIST_NAME[WHOLE], LIST_NAME[POWER9]);
+}
+
+/* The counts of an element, as the text that a browser shows over its cell. */
+static void put_counts(FILE *to, const struct cover *v, enum list list, unsigned id)
+{
+    fprintf(to, "%s%s:", list == 0 ? "" : "; ", LIST_NAME[list]);
+    for (enum way way = 0; way < WAYS; way++)
+        if (can_be(list, way, id))
+            fprintf(to, " %s %" PRIu64, WAY_NAME[way], v->elements[list][way][id]);
+}
+
+static void put_bars(FILE *to, const struct cover *v, enum list list, unsigned id)
+{
+    for (enum way way = 0; way < WAYS; way++) {
+        bool covered = is_covered(v, list, way, id);
+        fprintf(to, "<i class=\"%s\"></i>", covered ? "yes" : can_be(list, way, id) ? "missed" : "cannot");
+    }
+}
+
+static bool some_missed(const struct cover *v, unsigned id)
+{
+    bool missed = false;
+    for (enum list list = 0; list < LISTS; list++)
+        for (enum way way = 0; way < WAYS; way++)
+            missed = missed || is_missed(v, list, way, id);
+    return missed;
 }
 
 static void put_element(FILE *to, const struct cover *v, unsigned id)
 {
     char name[ADK_NAME_SIZE];
-    bool missed = false;
-    for (enum way way = 0; way < WAYS; way++)
-        missed = missed || is_missed(v, way, id);
     adk_element_name((uint16_t)id, name);
-    fprintf(to, "<div class=\"cell%s%s\" title=\"0x%04X %s:", missed ? " bad" : "", strlen(name) > 9 ? " wide" : "", id,
-            name);
-    for (enum way way = 0; way < WAYS; way++)
-        if (can_be(way, id))
-            fprintf(to, " %s %" PRIu64, WAY_NAME[way], v->elements[way][id]);
+    fprintf(to, "<div class=\"cell%s%s\" title=\"0x%04X %s, ", some_missed(v, id) ? " bad" : "",
+            strlen(name) > 9 ? " wide" : "", id, name);
+    for (enum list list = 0; list < LISTS; list++)
+        put_counts(to, v, list, id);
     fprintf(to, "\"><span>%s</span><div class=\"ways\">", name);
-    for (enum way way = 0; way < WAYS; way++)
-        fprintf(to, "<i class=\"%s\"></i>", is_covered(v, way, id) ? "yes" : can_be(way, id) ? "missed" : "cannot");
+    for (enum list list = 0; list < LISTS; list++)
+        put_bars(to, v, list, id);
     fputs("</div></div>\n", to);
 }
 
@@ -311,6 +370,8 @@ static void put_elements(FILE *to, const struct cover *v)
 {
     fprintf(to, "<h2>Coverage of the %d elements</h2>\n", ELEMENTS);
     put_ways(to, v);
+    put_refused(to, v);
+    put_key(to);
     for (size_t i = 0; i < COUNT(GROUPS); i++) {
         fprintf(to, "<h3>%s, 0x%04X to 0x%04X</h3>\n<div class=\"map\">\n", GROUPS[i].name, GROUPS[i].first,
                 GROUPS[i].last);

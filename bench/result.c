@@ -46,8 +46,10 @@ void judge_night(struct result *r, bool stopped)
         break;
     default:
         snprintf(r->sentence, SENTENCE,
-                 "All %" PRIu64 " calls agreed; %u of %u settable elements were set, %u of %u readable ones read.",
-                 f->made, how_many(v, SET, is_covered), how_many_can_be(SET), how_many(v, GOT, is_covered),
-                 how_many_can_be(GOT));
+                 "All %" PRIu64 " calls agreed; %u of %u settable elements were set, %u of %u readable ones read, by "
+                 "POWER9 guests %u of %u and %u of %u.",
+                 f->made, how_many(v, WHOLE, SET, is_covered), how_many_can_be(WHOLE, SET),
+                 how_many(v, WHOLE, GOT, is_covered), how_many_can_be(WHOLE, GOT), how_many(v, POWER9, SET, is_covered),
+                 how_many_can_be(POWER9, SET), how_many(v, POWER9, GOT, is_covered), how_many_can_be(POWER9, GOT));
     }
 }

@@ -11,8 +11,8 @@
  * after a disagreement in what is kept the next episode begins.
  *
  * The first disagreement of each kind is told in full. Then follow how often each call gave each answer, which elements
- * the night covered, how many accepted buffers held nothing but NOPs, how many vCPUs were handed over, and the lines
- * that sum it up.
+ * the night covered, by guests with the whole list and by POWER9 guests, how often the latter were refused what they
+ * lack, how many accepted buffers held nothing but NOPs, how many vCPUs were handed over, and the lines that sum it up.
  */
 #define _GNU_SOURCE
 

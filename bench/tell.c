@@ -11,6 +11,9 @@ void print_call(FILE *to, const struct call *c)
     for (int i = 0; i < NUMBERS && c->kind->number[i] != NULL; i++)
         fprintf(to, "%s%s 0x%" PRIX64, i == 0 ? "" : ", ", c->kind->number[i], c->n[i]);
     fprintf(to, ")\n");
+    if (goes_by_list(c->kind))
+        fprintf(to, "  logical PVR 0x%08" PRIX32 "%s\n", pvr_of(c->n[1]),
+                list_of(c->n[1]) == POWER9 ? ": a POWER9 guest" : "");
 }
 
 /* What is lent of a piece, at most so many bytes; lines that are as the one before are left out. */

@@ -6,7 +6,7 @@
 
 #include <stdio.h>
 
-/* The name of the call and its numbers. */
+/* The name of the call and its numbers; and, where the guest's list counts, its logical PVR before the call. */
 void print_call(FILE *to, const struct call *c);
 
 void print_answer(FILE *to, const char *who, const struct call *c, const adk_found *f);

@@ -38,13 +38,13 @@ static void print_disagreements(FILE *to, const struct figures *f)
 /* ---- Coverage ---- */
 
 /* The IDs, those that follow each other as one range. */
-static void print_ids(FILE *to, const struct cover *v, enum way way, id_test *which)
+static void print_ids(FILE *to, const struct cover *v, enum list list, enum way way, id_test *which)
 {
     for (unsigned id = 0; id <= 0xFFFF; id++) {
         unsigned last = id;
-        if (!which(v, way, id))
+        if (!which(v, list, way, id))
             continue;
-        while (last < 0xFFFF && which(v, way, last + 1))
+        while (last < 0xFFFF && which(v, list, way, last + 1))
             last++;
         fprintf(to, " 0x%04X", id);
         if (last != id)
@@ -54,17 +54,33 @@ static void print_ids(FILE *to, const struct cover *v, enum way way, id_test *wh
     fprintf(to, "\n");
 }
 
-static void print_elements(FILE *to, const struct cover *v)
+static void print_elements(FILE *to, const struct cover *v, enum list list)
 {
-    fprintf(to, "%-12s %8s %8s %8s   which\n", "elements", "covered", "can be", "missed");
+    fprintf(to, "\n%-12s %8s %8s %8s   which, of %s\n", "elements", "covered", "can be", "missed", LIST_NAME[list]);
     for (enum way way = 0; way < WAYS; way++) {
-        unsigned missed = how_many(v, way, is_missed);
-        fprintf(to, "%-12s %8u %8u %8u  ", WAY_NAME[way], how_many(v, way, is_covered), how_many_can_be(way), missed);
-        print_ids(to, v, way, is_covered);
+        unsigned missed = how_many(v, list, way, is_missed);
+        fprintf(to, "%-12s %8u %8u %8u  ", WAY_NAME[way], how_many(v, list, way, is_covered),
+                how_many_can_be(list, way), missed);
+        print_ids(to, v, list, way, is_covered);
         if (missed != 0) {
             fprintf(to, "%-39s  missed:", "");
-            print_ids(to, v, way, is_missed);
+            print_ids(to, v, list, way, is_missed);
         }
+    }
+}
+
+/* How often POWER9 guests were refused each element that they lack. */
+static void print_refused(FILE *to, const struct cover *v)
+{
+    fprintf(to, "\n%-12s", "refused");
+    for (unsigned i = 0; i < LATER_COUNT; i++)
+        fprintf(to, "   0x%04X", later_id(i));
+    fprintf(to, "   what %s lack\n", LIST_NAME[POWER9]);
+    for (int j = 0; j < JUDGED; j++) {
+        fprintf(to, "%-12s", JUDGED_NAME[j]);
+        for (unsigned i = 0; i < LATER_COUNT; i++)
+            fprintf(to, " %8" PRIu64, v->refused[j][i]);
+        fprintf(to, "\n");
     }
 }
 
@@ -94,19 +110,36 @@ static void print_agreed(FILE *to, const struct figures *f)
     fprintf(to, "\n");
 }
 
-static void print_worth(FILE *to, const struct cover *v)
+static void print_ways(FILE *to, const struct cover *v, enum list list)
 {
     static const char *const can[WAYS] = { "settable elements set", "readable read", "in effects", "returned", "taken",
                                            "given back" };
+    for (enum way way = 0; way < WAYS; way++)
+        fprintf(to, "%s%u of %u %s", way == 0 ? "" : ", ", how_many(v, list, way, is_covered),
+                how_many_can_be(list, way), can[way]);
+}
+
+/* What a POWER9 guest can't cover is not counted as missed; that it was refused is told instead. */
+static void print_power9(FILE *to, const struct cover *v)
+{
+    fprintf(to, "%s: ", LIST_NAME[POWER9]);
+    print_ways(to, v, POWER9);
+    fprintf(to, "; of the %d that they lack were refused", LATER_COUNT);
+    for (int j = 0; j < JUDGED; j++)
+        fprintf(to, "%s %u in %s", j == 0 ? "" : ",", how_many_refused(v, j), JUDGED_NAME[j]);
+    fprintf(to, "\n");
+}
+
+static void print_worth(FILE *to, const struct cover *v)
+{
     uint64_t accepted = all_accepted(v), nops = all_only_nops(v);
     fprintf(to, "worth: %s", worth_nothing(v) ? "NOTHING: " : "");
-    for (enum way way = 0; way < WAYS; way++)
-        fprintf(to, "%s%u of %u %s", way == 0 ? "" : ", ", how_many(v, way, is_covered), how_many_can_be(way),
-                can[way]);
+    print_ways(to, v, WHOLE);
     if (nops == accepted)
         fprintf(to, "; all %" PRIu64 " accepted buffers held nothing but NOPs\n", accepted);
     else
         fprintf(to, "; %" PRIu64 " of %" PRIu64 " accepted buffers held nothing but NOPs\n", nops, accepted);
+    print_power9(to, v);
 }
 
 void print_score(FILE *to, const struct result *r)
@@ -115,8 +148,9 @@ void print_score(FILE *to, const struct result *r)
     print_told(to, f);
     print_disagreements(to, f);
     print_tally(to, f->cover.answers, r->order->manner);
-    fprintf(to, "\n");
-    print_elements(to, &f->cover);
+    for (enum list list = 0; list < LISTS; list++)
+        print_elements(to, &f->cover, list);
+    print_refused(to, &f->cover);
     print_buffers(to, &f->cover);
     print_handed(to, &f->cover);
     print_agreed(to, f);

@@ -103,7 +103,8 @@ extern "C" {
  * Get state, set state and run judge the elements in turn, up to the first bad one. The answer is then, in this order,
  *
  *     ADK_INVALID_ELEMENT_SIZE     if the four bytes of ID and size do not fit into the buffer
- *     ADK_INVALID_ELEMENT_ID       if the ID is not listed below, has the other scope, or its access excludes the call
+ *     ADK_INVALID_ELEMENT_ID       if the ID is not listed below, has the other scope, its access excludes the call, or
+ *                                  it is one that the guest, a POWER9 one, lacks
  *     ADK_INVALID_ELEMENT_SIZE     if the size is not the listed one, or the value runs past the end of the buffer
  *     ADK_INVALID_ELEMENT_VALUE    in set state, if the value breaks the rule of its element
  *
@@ -119,30 +120,41 @@ extern "C" {
  * are the bytes of each part. Where no rule is told every value is good. Addresses are kept and never followed. The
  * values of a new guest or vCPU are 0.
  *
- *     ID               Size  Access  Value
- *     0x0000           any   RW      NOP, in both scopes: its value bytes are neither read nor written
+ * POWER9: whether a POWER9 guest has the element. That is a guest whose logical PVR (0x0003) is ADK_PVR_ARCH_300 at the
+ * start of the call; to one with any other number, 0 too, the whole list is offered. A POWER9 guest lacks the nine
+ * registers that came later, marked "not POWER9" below: in thread get state, thread set state, and the input and the
+ * effect of a run, their IDs are refused as unlisted ones are, whatever their size. What its vCPUs hold for the nine
+ * stays where it is and is handed over with them; with another PVR it is read again.
  *
- *                                    Guest-wide
- *     0x0001           8     R       size of L0's vCPU state, as it is handed over: always 1,844, ADK_FORM_MAX
- *     0x0002           8     R       least size of a run vCPU output buffer: always 124
- *     0x0003           4     RW      logical PVR. Rule: ADK_PVR_ARCH_300, if ADK_CAP_POWER9 is agreed at the call, or
- *                                    ADK_PVR_ARCH_31, if ADK_CAP_POWER10 is
- *     0x0004           8     RW      TB offset, relative to L1's timebase. It is kept as set; the clock rounds it up
- *     0x0005           24    RW      partition-scoped page table: address (8), number of address bits (8), size of the
- *                                    root directory (8)
- *     0x0006           16    RW      process table: address (8), size (8)
+ *     ID               Size  Access  POWER9  Value
+ *     0x0000           any   RW      yes     NOP, in both scopes: its value bytes are neither read nor written
  *
- *                                    Thread
- *     0x0C00           16    RW      run vCPU input buffer: address (8), size (8). Rule: the size is 4 to 65,536
- *     0x0C01           16    RW      run vCPU output buffer: address (8), size (8). Rule: the size is 124 to 65,536
- *     0x0C02           8     RW      address of the VPA
- *     0x1000-0x1053    8     RW      GPR 0 to 31 and the registers of 64 bits named below; but 0x103A, PPR, is W
- *     0x2000-0x200E    4     RW      the registers of 32 bits named below
- *     0x3000-0x303F    16    RW      VSR 0 to 63
- *     0xF000           8     R       HDAR
- *     0xF001           4     R       HDSISR
- *     0xF002           4     R       HEIR; Linux's L1 code gives it 8 bytes, which is ADK_INVALID_ELEMENT_SIZE here
- *     0xF003           8     R       ASDR
+ *                                            Guest-wide
+ *     0x0001           8     R       yes     size of L0's vCPU state, as it is handed over: always 1,844, ADK_FORM_MAX
+ *     0x0002           8     R       yes     least size of a run vCPU output buffer: always 124
+ *     0x0003           4     RW      yes     logical PVR. Rule: ADK_PVR_ARCH_300, if ADK_CAP_POWER9 is agreed at the
+ *                                            call, or ADK_PVR_ARCH_31, if ADK_CAP_POWER10 is
+ *     0x0004           8     RW      yes     TB offset, relative to L1's timebase. It is kept as set; the clock rounds
+ *                                            it up
+ *     0x0005           24    RW      yes     partition-scoped page table: address (8), number of address bits (8), size
+ *                                            of the root directory (8)
+ *     0x0006           16    RW      yes     process table: address (8), size (8)
+ *
+ *                                            Thread
+ *     0x0C00           16    RW      yes     run vCPU input buffer: address (8), size (8). Rule: the size is 4 to
+ *                                            65,536
+ *     0x0C01           16    RW      yes     run vCPU output buffer: address (8), size (8). Rule: the size is 124 to
+ *                                            65,536
+ *     0x0C02           8     RW      yes     address of the VPA
+ *     0x1000-0x1053    8     RW      part    GPR 0 to 31 and the registers of 64 bits named below; but 0x103A, PPR, is
+ *                                            W. POWER9 lacks 0x1031, 0x103E, 0x1041, 0x1042 and 0x104E to 0x1051
+ *     0x2000-0x200E    4     RW      part    the registers of 32 bits named below. POWER9 lacks 0x2006
+ *     0x3000-0x303F    16    RW      yes     VSR 0 to 63
+ *     0xF000           8     R       yes     HDAR
+ *     0xF001           4     R       yes     HDSISR
+ *     0xF002           4     R       yes     HEIR; Linux's L1 code gives it 8 bytes, which is
+ *                                            ADK_INVALID_ELEMENT_SIZE here
+ *     0xF003           8     R       yes     ASDR
  *
  * The names below follow Linux's guest-state-buffer.h.
  */
@@ -159,7 +171,7 @@ extern "C" {
 /* IDs of numbered registers, by the number in the register's name. */
 #define ADK_GSID_GPR(n) (0x1000 + (n))  /* 0 to 31 */
 #define ADK_GSID_SPRG(n) (0x1036 + (n)) /* 0 to 3 */
-#define ADK_GSID_MMCR(n) (0x103B + (n)) /* 0 to 3 */
+#define ADK_GSID_MMCR(n) (0x103B + (n)) /* 0 to 3; 3 is not POWER9 */
 #define ADK_GSID_PMC(n) (0x2006 + (n))  /* 1 to 6: 0x2007 to 0x200C */
 #define ADK_GSID_VSR(n) (0x3000 + (n))  /* 0 to 63 */
 
@@ -194,7 +206,7 @@ enum {
     ADK_GSID_FSCR = 0x102E,
     ADK_GSID_FPSCR = 0x102F,
     ADK_GSID_DAWR0 = 0x1030,
-    ADK_GSID_DAWR1 = 0x1031,
+    ADK_GSID_DAWR1 = 0x1031, /* not POWER9 */
     ADK_GSID_CIABR = 0x1032,
     ADK_GSID_PURR = 0x1033,
     ADK_GSID_SPURR = 0x1034,
@@ -202,8 +214,8 @@ enum {
     ADK_GSID_PPR = 0x103A,
     ADK_GSID_MMCRA = 0x103F,
     ADK_GSID_SIER = 0x1040,
-    ADK_GSID_SIER2 = 0x1041,
-    ADK_GSID_SIER3 = 0x1042,
+    ADK_GSID_SIER2 = 0x1041, /* not POWER9 */
+    ADK_GSID_SIER3 = 0x1042, /* not POWER9 */
     ADK_GSID_BESCR = 0x1043,
     ADK_GSID_EBBHR = 0x1044,
     ADK_GSID_EBBRR = 0x1045,
@@ -215,10 +227,10 @@ enum {
     ADK_GSID_SIAR = 0x104B,
     ADK_GSID_DSCR = 0x104C,
     ADK_GSID_TAR = 0x104D,
-    ADK_GSID_DEXCR = 0x104E,
-    ADK_GSID_HDEXCR = 0x104F,
-    ADK_GSID_HASHKEYR = 0x1050,
-    ADK_GSID_HASHPKEYR = 0x1051,
+    ADK_GSID_DEXCR = 0x104E,     /* not POWER9 */
+    ADK_GSID_HDEXCR = 0x104F,    /* not POWER9 */
+    ADK_GSID_HASHKEYR = 0x1050,  /* not POWER9 */
+    ADK_GSID_HASHPKEYR = 0x1051, /* not POWER9 */
     ADK_GSID_CTRL = 0x1052,
     ADK_GSID_DPDES = 0x1053,
 
@@ -228,7 +240,7 @@ enum {
     ADK_GSID_VSCR = 0x2003,
     ADK_GSID_VRSAVE = 0x2004,
     ADK_GSID_DAWRX0 = 0x2005,
-    ADK_GSID_DAWRX1 = 0x2006,
+    ADK_GSID_DAWRX1 = 0x2006, /* not POWER9 */
     ADK_GSID_WORT = 0x200D,
     ADK_GSID_PSPB = 0x200E,
 
@@ -289,10 +301,10 @@ enum {
  *  4  ADK_BAD_VCPU                the vCPU id is above ADK_VCPU_MAX, or (not when creating) the vCPU is absent
  *  5  ADK_BAD_LENGTH              the buffer has under ADK_BUFFER_MIN or over ADK_BUFFER_MAX bytes; never in a run.
  *                                 Taking a vCPU: under ADK_FORM_MAX; giving it back: under ADK_FORM_MIN
- *  6  ADK_INVALID_ELEMENT_ID      get and set state, run input: an element's ID is not listed, of the wrong scope, or
- *                                 not permitted in the call. r4: its index, from 0; r5: its byte offset; in a run
- *                                 input r4 is the offset and r5 the index. Lookup: no counted element has the ID. r4:
- *                                 the count
+ *  6  ADK_INVALID_ELEMENT_ID      get and set state, run input: an element's ID is not listed, of the wrong scope, not
+ *                                 permitted in the call, or not offered to a POWER9 guest. r4: its index, from 0; r5:
+ *                                 its byte offset; in a run input r4 is the offset and r5 the index. Lookup: no counted
+ *                                 element has the ID. r4: the count
  *  7  ADK_INVALID_ELEMENT_SIZE    an element is cut off by the buffer's end; get and set state, run input: or its size
  *                                 is not the listed one. r4 and r5 as with 6; lookup: r4 the index, r5 the offset
  *  8  ADK_INVALID_ELEMENT_VALUE   set state: an element's value breaks its rule. r4 and r5 as with 6

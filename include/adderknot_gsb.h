@@ -3,7 +3,8 @@
  * nothing is linked. It is C99 and C++11.
  *
  * It has numbers read and written most significant byte first, a builder and a reader of guest state buffers, the names
- * of answers, elements and exits, and PAPR's return code for an answer. A buffer that names two elements to be read:
+ * of answers, elements and exits, which elements a guest is offered, and PAPR's return code for an answer. A buffer
+ * that names two elements to be read:
  *
  *     uint8_t bytes[64];
  *     adk_gsb gsb;
@@ -66,6 +67,21 @@ static inline uint16_t adk_element_size(uint16_t id)
         if (id >= rows[i].first && id <= rows[i].last)
             return rows[i].size;
     return 0;
+}
+
+/* Whether a guest with this logical PVR is offered the element. A POWER9 guest, of ADK_PVR_ARCH_300, lacks nine that
+   other guests have; the NOP is offered to all, and an ID that is not listed to none. */
+static inline int adk_element_offered(uint16_t id, uint32_t logical_pvr)
+{
+    static const uint16_t later[] = {
+        ADK_GSID_DAWR1,  ADK_GSID_MMCR(3),  ADK_GSID_SIER2,     ADK_GSID_SIER3, ADK_GSID_DEXCR,
+        ADK_GSID_HDEXCR, ADK_GSID_HASHKEYR, ADK_GSID_HASHPKEYR, ADK_GSID_DAWRX1,
+    };
+    size_t i;
+    for (i = 0; logical_pvr == ADK_PVR_ARCH_300 && i < sizeof later / sizeof later[0]; i++)
+        if (id == later[i])
+            return 0;
+    return id == ADK_GSID_NOP || adk_element_size(id) != 0;
 }
 
 /* Names of elements in a row of IDs. */

@@ -53,11 +53,22 @@ static void reader(void)
     check("reader of three bytes", !adk_gsb_next(&r, &e) && r.count == 0);
 }
 
-/* Every ID is set or read with the size that is told, and refused for its ID where none is. */
-static void sizes(uint8_t *store, uint64_t guest)
+/* Sets the logical PVR of the guest; 0 is that of a new one. */
+static void set_pvr(uint8_t *store, uint64_t guest, uint32_t pvr)
+{
+    uint8_t bytes[16];
+    adk_gsb gsb;
+    adk_gsb_begin(&gsb, bytes, sizeof bytes);
+    adk_gsb_add_number(&gsb, ADK_GSID_LOGICAL_PVR, pvr);
+    adk_set_state(store, ADK_STORE_SIZE, ADK_GUEST_WIDE, guest, 0, bytes, adk_gsb_length(&gsb));
+}
+
+/* How many elements are offered, if each is set or read with the size that is told, and all other IDs are refused. */
+static unsigned offered(uint8_t *store, uint64_t guest, uint32_t pvr)
 {
     uint8_t bytes[64];
-    unsigned listed = 0, id, wrong = 0;
+    unsigned n = 0, wrong = 0, id;
+    set_pvr(store, guest, pvr);
     for (id = 1; id <= 0xFFFF; id++) {
         uint64_t flags = id <= 0x0006 ? ADK_GUEST_WIDE : 0;
         adk_gsb gsb;
@@ -66,14 +77,23 @@ static void sizes(uint8_t *store, uint64_t guest)
         adk_gsb_add(&gsb, (uint16_t)id);
         get = adk_get_state(store, ADK_STORE_SIZE, flags, guest, 0, bytes, adk_gsb_length(&gsb));
         set = adk_set_state(store, ADK_STORE_SIZE, flags, guest, 0, bytes, adk_gsb_length(&gsb));
-        listed += adk_element_size((uint16_t)id) != 0;
-        if (adk_element_size((uint16_t)id) == 0)
+        n += adk_element_offered((uint16_t)id, pvr) != 0;
+        if (!adk_element_offered((uint16_t)id, pvr))
             wrong += get.r3 != ADK_INVALID_ELEMENT_ID || set.r3 != ADK_INVALID_ELEMENT_ID;
         else
             wrong += get.r3 == ADK_INVALID_ELEMENT_SIZE || set.r3 == ADK_INVALID_ELEMENT_SIZE ||
                      (get.r3 != ADK_OK && set.r3 != ADK_OK);
     }
-    check("sizes of all elements, as the library has them", wrong == 0 && listed == 176);
+    return wrong == 0 ? n : 0;
+}
+
+static void sizes(uint8_t *store, uint64_t guest)
+{
+    check("sizes of all elements, as the library has them", offered(store, guest, 0) == 176);
+    check("what a POWER9 guest is offered, as the library has it", offered(store, guest, ADK_PVR_ARCH_300) == 167);
+    check("what a POWER10 guest is offered, as the library has it", offered(store, guest, ADK_PVR_ARCH_31) == 176);
+    check("the NOP is offered to all",
+          adk_element_offered(ADK_GSID_NOP, ADK_PVR_ARCH_300) && adk_element_offered(ADK_GSID_NOP, 0));
 }
 
 static int named(unsigned id, const char *name)
@@ -133,6 +153,7 @@ int main(void)
     if (store == NULL)
         return 1;
     adk_fresh_store(store, ADK_STORE_SIZE);
+    adk_set_capabilities(store, ADK_STORE_SIZE, 0, ADK_CAP_POWER9 | ADK_CAP_POWER10);
     guest = adk_create_guest(store, ADK_STORE_SIZE, 0, ADK_TOKEN);
     adk_create_vcpu(store, ADK_STORE_SIZE, 0, guest.r4, 0);
     numbers();

@@ -74,6 +74,16 @@ judged-passed (x ∷ xs) e = go (x .0) e (judged-passed xs)
     go true q ih = absurd (no-refusal q)
     go false q ih = (refl, ih q)
 
+-- tests behind others matter only where none of those holds
+pub same-after : {A : Type 0} (refuse : Fault → A) (xs ys zs : List (Bool × Fault)) (o : A) → (Passed xs → ys ≡ zs) → firstOf refuse (xs ++ ys) o ≡ firstOf refuse (xs ++ zs) o
+same-after refuse [] ys zs o h = ap (λ (t : List (Bool × Fault)). firstOf refuse t o) (h tt)
+same-after {A} refuse (x ∷ xs) ys zs o h = go (x .0) refl (same-after refuse xs ys zs o)
+  where
+    go : (t : Bool) → x .0 ≡ t → ((Passed xs → ys ≡ zs) → firstOf refuse (xs ++ ys) o ≡ firstOf refuse (xs ++ zs) o)
+        → cond t (refuse (x .1)) (firstOf refuse (xs ++ ys) o) ≡ cond t (refuse (x .1)) (firstOf refuse (xs ++ zs) o)
+    go true e ih = refl
+    go false e ih = ih (λ p. h (e, p))
+
 -- P of what a call gives: P of each refusal, and of what it does where no test holds
 pub each-way : {A : Type 0} (P : A → Type 0) (refuse : Fault → A) (xs : List (Bool × Fault)) (o : A) → ((f : Fault) → P (refuse f)) → (Passed xs → P o) → P (firstOf refuse xs o)
 each-way P refuse [] o r g = g tt

@@ -5,13 +5,14 @@ use mathlib.Core.List.{List}
 use Prim.Native.Nat.{ℕ, _+_, _^_, _≤_, _<_}
 use native.Mathlib.Omega.{arith}
 use lib.Dec.{leb, ltb}
-use borrow.Author.Tests.{le-leb, lt-leb, ltb-true}
+use borrow.Author.Tests.{le-leb, lt-leb, ltb-true, not-false}
 use Rattle.answer.specs.declared.Fault.{Fault}
 use Rattle.answer.specs.declared.Fault.the-variants.{Store, Guest, Vcpu, Taken}
 use Rattle.store.specs.declared.Layout.{Layout}
 use Rattle.store.specs.Layout.{Sound, small, guestBytes, slotBytes, guestAt, slotAt}
 use Rattle.store.specs.Header.{header, live, wordOf, slotHolding, slotOf, isTaken}
 use Rattle.store.specs.Store.{wellFormed}
+use Rattle.store.proofs.Tests.{live-parts}
 use Rattle.admission.specs.declared.Admission.{Admission}
 use Rattle.admission.specs.declared.Admission.the-variants.{Admitted, Refused}
 use Rattle.admission.specs.declared.Target.{Target}
@@ -21,7 +22,7 @@ use Rattle.admission.specs.declared.Slot.the-variants.{Refused as SlotRe
 use Rattle.admission.specs.Refusals.{admission, judgement}
 use Rattle.admission.specs.Target.{slotNamed, isAbsent, isAway, targetTests, baseOf, targetOf, Held, vcpuTests, vcpuSlot, Within}
 use Rattle.admission.proofs.FirstTests.{refused, past, admitted}
-use Rattle.admission.proofs.Judging.{was-refused, was-admitted}
+use Rattle.admission.proofs.Judging.{was-refused, was-admitted, judged-passed}
 
 -- ---- the answers of `target_of`
 module _ (l : Layout) (s : List ℕ) (supported flags : ℕ) (wide : Bool) (guest vcpu : ℕ) (a : Admission) (q : a ≡ admission l s supported flags) where
@@ -108,6 +109,16 @@ module _ (l : Layout) (s : List ℕ) (supported flags : ℕ) (wide : Bool) (gues
     where
       at-same : {x y : ℕ} → At x ≡ At y → x ≡ y
       at-same e = cc
+
+  -- the guest of a target that was found
+  found-lives : (base : ℕ) → a ≡ At base → live l (header l s) guest ≡ true
+  found-lives base h = not-false _ (judged-passed (targetTests l s supported flags wide guest vcpu) (target-found base h .0) .1 .1 .0)
+
+  pub found-low : (base : ℕ) → a ≡ At base → 1 ≤ guest
+  found-low base h = live-parts l (header l s) guest (found-lives base h) .0
+
+  pub found-high : (base : ℕ) → a ≡ At base → guest ≤ l .guests
+  found-high base h = live-parts l (header l s) guest (found-lives base h) .1
 
 slot-refused-same : (f g : Fault) → SlotRefused f ≡ SlotRefused g → f ≡ g
 slot-refused-same f g e = cc

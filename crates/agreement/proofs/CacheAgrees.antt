@@ -33,36 +33,37 @@ except-only r = go (isExcepted r) (λ e. let h = both _ _ e in let k = both _ _ 
     go true h = (refl, refl, λ n. absurd (n (h refl)))
     go false h = (refl, refl, λ n. refl)
 
-module _ (l : Layout) (so : Sound l) (g v j : ℕ) (below : j < l .slots) where
+module _ (l : Layout) (so : Sound l) (g v j : ℕ) (below : j < l .slots) (pvr : ℕ) where
   -- one operation, whatever it is
-  turn : (o : Op) (os : List Op) → Allowed g (o ∷ os) → (b : Cached) (p : List ℕ) (ws : List (ℕ × List ℕ)) → Inv l so g v j below b p ws
-      → Goes l so g v j below b o ws (cachedTurn l g v o b) (plainTurn l g v o p) × Allowed g os
-  turn (Write id w) os a b p ws i = (write-turn l so g v j below b p ws i id w (a .0), a .1)
-  turn (Read id w) os a b p ws i = (read-turn l so g v j below b p ws i id w (a .0), a .1)
-  turn (Run flags input output effect exit) os a b p ws i = (run-turn l so g v j below flags input output effect exit b p ws i, a)
-  turn (Other c) os a b p ws i = (other-turn l so g v j below c (a .0) b p ws i, a .1)
+  turn : (o : Op) (os : List Op) → Allowed g (o ∷ os) → (b : Cached) (p : List ℕ) (ws : List (ℕ × List ℕ)) → Inv l so g v j below pvr b p ws
+      → Goes l so g v j below pvr b o ws (cachedTurn l g v pvr o b) (plainTurn l g v o p) × Allowed g os
+  turn (Write id w) os a b p ws i = (write-turn l so g v j below pvr b p ws i id w (a .0), a .1)
+  turn (Read id w) os a b p ws i = (read-turn l so g v j below pvr b p ws i id w (a .0), a .1)
+  turn (Run flags input output effect exit) os a b p ws i = (run-turn l so g v j below pvr flags input output effect exit b p ws i, a)
+  turn (Other c) os a b p ws i = (other-turn l so g v j below pvr c (a .0) b p ws i, a .1)
 
   -- and so the whole list
-  agree : (os : List Op) → Allowed g os → (b : Cached) (p : List ℕ) (ws : List (ℕ × List ℕ)) → Inv l so g v j below b p ws → Agree l g v os ws b p
+  agree : (os : List Op) → Allowed g os → (b : Cached) (p : List ℕ) (ws : List (ℕ × List ℕ)) → Inv l so g v j below pvr b p ws → Agree l g v pvr os ws b p
   agree [] a b p ws i = tt
   agree (o ∷ os) a b p ws i =
       let t = turn o os a b p ws i in
-      (t .0 .same, agree os (t .1) (cachedTurn l g v o b .next) (plainTurn l g v o p .next) (since o (plainTurn l g v o p .shown .answer) ws) (t .0 .next))
+      (t .0 .same, agree os (t .1) (cachedTurn l g v pvr o b .next) (plainTurn l g v o p .next) (since o (plainTurn l g v o p .shown .answer) ws) (t .0 .next))
 
 -- of any layout
-pub agrees : (l : Layout) → Sound l → (guest vcpu : ℕ) (s : List ℕ) (c : Cache) → Start l guest vcpu s c → (os : List Op) → Allowed guest os
-    → Agree l guest vcpu os [] (record { cache = c; store = s }) s
-agrees l so guest vcpu s c st os a =
+pub agrees : (l : Layout) → Sound l → (guest vcpu pvr : ℕ) (s : List ℕ) (c : Cache) → Start l guest vcpu pvr s c → (os : List Op) → Allowed guest os
+    → Agree l guest vcpu pvr os [] (record { cache = c; store = s }) s
+agrees l so guest vcpu pvr s c st os a =
     let j = slotOf l (header l s) guest vcpu in
-    let o : Ours l so guest vcpu j (st .live) s = record { good = st .formed; slot = refl; here = st .here } in
-    let e = ours-base l so guest vcpu j (st .live) s o in
-    agree l so guest vcpu j (st .live) os a (record { cache = c; store = s }) s []
-    (subst (λ (m : List ℕ). Inv l so guest vcpu j (st .live) (record { cache = record { values = c .values; marks = m }; store = s }) s []) (sym (st .empty))
-    (empty-inv l so guest vcpu j (st .live) s o
+    let o : Ours l so guest vcpu j (st .live) pvr s = record { good = st .formed; slot = refl; here = st .here; told = st .told } in
+    let e = ours-base l so guest vcpu j (st .live) pvr s o in
+    agree l so guest vcpu j (st .live) pvr os a (record { cache = c; store = s }) s []
+    (subst (λ (m : List ℕ). Inv l so guest vcpu j (st .live) pvr (record { cache = record { values = c .values; marks = m }; store = s }) s []) (sym (st .empty))
+    (empty-inv l so guest vcpu j (st .live) pvr s o
     (ap (λ (x : ℕ). goodInput (inputSize s x)) (sym e) ∙ st .input)
     (subst (λ (x : ℕ). 2424 ≤ inputSize s x) e (st .wide))
     (ap (λ (x : ℕ). goodOutput (outputSize s x)) (sym e) ∙ st .output) (c .values) (st .values)))
 
 -- of the store of 29,580 bytes
-pub cache-agrees : (guest vcpu : ℕ) (s : List ℕ) (c : Cache) → Start small guest vcpu s c → (os : List Op) → Allowed guest os → Agree small guest vcpu os [] (record { cache = c; store = s }) s
-cache-agrees guest vcpu s c st os a = agrees small sound-small guest vcpu s c st os a
+pub cache-agrees : (guest vcpu pvr : ℕ) (s : List ℕ) (c : Cache) → Start small guest vcpu pvr s c → (os : List Op) → Allowed guest os
+    → Agree small guest vcpu pvr os [] (record { cache = c; store = s }) s
+cache-agrees guest vcpu pvr s c st os a = agrees small sound-small guest vcpu pvr s c st os a

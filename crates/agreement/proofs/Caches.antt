@@ -15,6 +15,7 @@ use Rattle.elements.specs.Table.{numberOf, threadElement}
 use Rattle.store.specs.Search.{every}
 use Rattle.store.proofs.Search.{every-all}
 use Rattle.exits.specs.Exits.{elementOf, valued}
+use Rattle.elements.specs.declared.Offer.{Offer}
 use Rattle.l1.specs.Marks.{Cache, withMark, valid, changed, isInput, markGood, goodCache}
 use Rattle.l1.specs.Cache.{change, keep, chosen, pending}
 use Rattle.agreement.specs.Agree.{newest, inOrder}
@@ -125,26 +126,26 @@ module _ (c : Cache) (lv : length (c .values) ≡ 1820) (lm : length (c .marks) 
       ∙ mark-other (c .marks) e (192 + f) first-word (λ q. omega (arith, named-number id t))
 
 -- ---- well formed
-pub well-formed : (c : Cache) → length (c .values) ≡ 1820 → length (c .marks) ≡ 6
-    → ((e : ℕ) → e < 170 → changed c e ≡ true → (valid c e ≡ true) × (isInput (threadElement e .id) ≡ true))
-    → ((e : ℕ) → 170 ≤ e → e < 192 → (valid c e ≡ false) × (changed c e ≡ false)) → goodCache c ≡ true
+pub well-formed : (o : Offer) (c : Cache) → length (c .values) ≡ 1820 → length (c .marks) ≡ 6
+    → ((e : ℕ) → e < 170 → changed c e ≡ true → (valid c e ≡ true) × (isInput o (threadElement e .id) ≡ true))
+    → ((e : ℕ) → 170 ≤ e → e < 192 → (valid c e ≡ false) × (changed c e ≡ false)) → goodCache o c ≡ true
 unfolding goodCache markGood
-well-formed c lv lm low high =
-    ap₂ (λ (a b : Bool). a && (b && every (markGood c) 192 0)) (eq-eqb _ _ lv) (eq-eqb _ _ lm)
-    ∙ every-all (markGood c) 192 0 (λ e h k. by e k (decLt e 170))
+well-formed o c lv lm low high =
+    ap₂ (λ (a b : Bool). a && (b && every (markGood o c) 192 0)) (eq-eqb _ _ lv) (eq-eqb _ _ lm)
+    ∙ every-all (markGood o c) 192 0 (λ e h k. by e k (decLt e 170))
   where
-    below : (e : ℕ) → e < 170 → (x : Bool) → changed c e ≡ x → (not x || (valid c e && isInput (threadElement e .id))) ≡ true
+    below : (e : ℕ) → e < 170 → (x : Bool) → changed c e ≡ x → (not x || (valid c e && isInput o (threadElement e .id))) ≡ true
     below e k true q = let p = low e k q in ap₂ (λ (a b : Bool). a && b) (p .0) (p .1)
     below e k false q = refl
 
-    by : (e : ℕ) → e < 0 + 192 → Dec (e < 170) → markGood c e ≡ true
+    by : (e : ℕ) → e < 0 + 192 → Dec (e < 170) → markGood o c e ≡ true
     by e k (yes h) =
-        ap (λ (t : Bool). cond t (not (changed c e) || (valid c e && isInput (threadElement e .id))) (not (valid c e) && not (changed c e))) (lt-ltb e 170 h)
+        ap (λ (t : Bool). cond t (not (changed c e) || (valid c e && isInput o (threadElement e .id))) (not (valid c e) && not (changed c e))) (lt-ltb e 170 h)
         ∙ below e h (changed c e) refl
     by e k (no h) =
         let p = high e (omega arith) (omega arith) in
         let q : ltb e 170 ≡ false = le-ltb e 170 (omega arith) in
-        ap (λ (t : Bool). cond t (not (changed c e) || (valid c e && isInput (threadElement e .id))) (not (valid c e) && not (changed c e))) q
+        ap (λ (t : Bool). cond t (not (changed c e) || (valid c e && isInput o (threadElement e .id))) (not (valid c e) && not (changed c e))) q
         ∙ ap₂ (λ (a b : Bool). not a && not b) (p .0) (p .1)
 
 -- ---- what is pending, in order of ID

@@ -15,6 +15,7 @@ use Rattle.answer.specs.declared.Fault.the-variants.{Length, Element, Cache as 
 use Rattle.elements.specs.Table.{numberOf, threadElement}
 use Rattle.rules.specs.Rules.{goodInput, goodOutput}
 use Rattle.gsb.specs.Message.{firstPlace}
+use Rattle.elements.specs.Later.{offerOf}
 use Rattle.store.specs.declared.Layout.{Layout}
 use Rattle.store.specs.Layout.{Sound}
 use Rattle.store.proofs.Search.{no-bool}
@@ -31,19 +32,19 @@ use Rattle.agreement.proofs.Ours.{base, Ours, ours-room, back-ours}
 use Rattle.agreement.proofs.Single.{write-long, write-special, write-id, write-size, write-good}
 use Rattle.agreement.proofs.Caches.{cell, dueAt, keep-values, keep-marks, keep-same, keep-other, keep-valid, keep-valid-other, keep-changed, change-values, change-marks, change-same, change-other, change-valid, change-valid-other, change-changed, change-changed-other, well-formed}
 
-module _ (l : Layout) (so : Sound l) (g v j : ℕ) (below : j < l .slots) where
+module _ (l : Layout) (so : Sound l) (g v j : ℕ) (below : j < l .slots) (pvr : ℕ) where
   abbrev pub at : ℕ
-  at = base l so g v j below
+  at = base l so g v j below pvr
 
   -- b is the cached L1, p the plain L1's store, ws the accepted writes since the last accepted run
   pub record Inv (b : Cached) (p : List ℕ) (ws : List (ℕ × List ℕ)) : Type 0 where
-    pub ours : Ours l so g v j below (b .store)
+    pub ours : Ours l so g v j below pvr (b .store)
     pub input : goodInput (inputSize (b .store) at) ≡ true
     pub wide : 2424 ≤ inputSize (b .store) at
     pub output : goodOutput (outputSize (b .store) at) ≡ true
     pub values : length (b .cache .values) ≡ 1820
     pub marks : length (b .cache .marks) ≡ 6
-    pub fit : Fit ws
+    pub fit : Fit (offerOf pvr) ws
     pub plain : p ≡ back at (b .store) ws
     pub due : (e : ℕ) → e < 170 → dueAt (b .cache) e ≡ newest ws (threadElement e .id)
     pub kept : (e : ℕ) → e < 170 → changed (b .cache) e ≡ true → valid (b .cache) e ≡ true
@@ -59,27 +60,27 @@ module _ (l : Layout) (so : Sound l) (g v j : ℕ) (below : j < l .slots) where
   as-turned b o ws c c′ p p′ e q t = subst (λ (x : Turn Cached). Goes b o ws x p) (sym e) (subst (Goes b o ws c′) (sym q) t)
 
   module _ (b : Cached) (p : List ℕ) (ws : List (ℕ × List ℕ)) (i : Inv b p ws) where
-    pub plain-ours : Ours l so g v j below p
-    plain-ours = subst (Ours l so g v j below) (sym (i .plain)) (back-ours l so g v j below (b .store) ws (i .fit) (i .ours))
+    pub plain-ours : Ours l so g v j below pvr p
+    plain-ours = subst (Ours l so g v j below pvr) (sym (i .plain)) (back-ours l so g v j below pvr (b .store) ws (i .fit) (i .ours))
 
     plain-room : at + 1820 ≤ length p
-    plain-room = ours-room l so g v j below p plain-ours
+    plain-room = ours-room l so g v j below pvr p plain-ours
 
     -- a changed element was written, so that a run input takes it
-    changed-input : (e : ℕ) → e < 170 → changed (b .cache) e ≡ true → isInput (threadElement e .id) ≡ true
-    changed-input e h q = go (newest ws (threadElement e .id)) (latest ws (threadElement e .id) (i .fit)) (ap (λ (t : Bool). cond t ((threadElement e .id, cell (b .cache) (threadElement e .id)) ∷ []) []) (sym q) ∙ i .due e h)
+    changed-input : (e : ℕ) → e < 170 → changed (b .cache) e ≡ true → isInput (offerOf pvr) (threadElement e .id) ≡ true
+    changed-input e h q = go (newest ws (threadElement e .id)) (latest (offerOf pvr) ws (threadElement e .id) (i .fit)) (ap (λ (t : Bool). cond t ((threadElement e .id, cell (b .cache) (threadElement e .id)) ∷ []) []) (sym q) ∙ i .due e h)
       where
-        go : (es : List (ℕ × List ℕ)) → Latest (threadElement e .id) es → (threadElement e .id, cell (b .cache) (threadElement e .id)) ∷ [] ≡ es → isInput (threadElement e .id) ≡ true
+        go : (es : List (ℕ × List ℕ)) → Latest (offerOf pvr) (threadElement e .id) es → (threadElement e .id, cell (b .cache) (threadElement e .id)) ∷ [] ≡ es → isInput (offerOf pvr) (threadElement e .id) ≡ true
         go [] none k = let z : _≡_ {A = ℕ} 1 0 = ap length k in absurd (omega arith)
         go (x ∷ []) (some w a c) k = a
 
-    pub cache-good : goodCache (b .cache) ≡ true
-    cache-good = well-formed (b .cache) (i .values) (i .marks) (λ e h q. (i .kept e h q, changed-input e h q)) (i .past)
+    pub cache-good : goodCache (offerOf pvr) (b .cache) ≡ true
+    cache-good = well-formed (offerOf pvr) (b .cache) (i .values) (i .marks) (λ e h q. (i .kept e h q, changed-input e h q)) (i .past)
 
     -- ---- an accepted write
-    module _ (id : ℕ) (w : List ℕ) (h : isInput id ≡ true) (z : length w ≡ elementOf id .size) where
+    module _ (id : ℕ) (w : List ℕ) (h : isInput (offerOf pvr) id ≡ true) (z : length w ≡ elementOf id .size) where
       abbrev named : Named id
-      named = input-named id h
+      named = input-named (offerOf pvr) id h
 
       differs : (f : ℕ) → f < 170 → f ≢ numberOf id → id ≢ threadElement f .id
       differs f k n q = n (sym (number-back f k) ∙ ap numberOf (sym q))
@@ -207,61 +208,61 @@ module _ (l : Layout) (so : Sound l) (g v j : ℕ) (below : j < l .slots) where
         unwritten =
             let k = named-number id named in
             let e : newest ws id ≡ [] = ap (newest ws) (sym (named-back id named)) ∙ sym (i .due (numberOf id) k) ∙ ap (λ (t : Bool). cond t ((threadElement (numberOf id) .id, cell (b .cache) (threadElement (numberOf id) .id)) ∷ []) []) unchanged in
-            ap (λ (s : List ℕ). valueOf at s id) (i .plain) ∙ read-none at (b .store) (ours-room l so g v j below (b .store) (i .ours)) ws id (i .fit) named e
+            ap (λ (s : List ℕ). valueOf at s id) (i .plain) ∙ read-none at (b .store) (ours-room l so g v j below pvr (b .store) (i .ours)) (offerOf pvr) ws id (i .fit) named e
 
     -- ---- the turn of a write
     module _ (id : ℕ) (w : List ℕ) (small : id < 2 ^ 16) where
-      cached-write : (a x y : Bool) → ltb 65528 (length w) ≡ a → isInput id ≡ x → eqb (length w) (elementOf id .size) ≡ y
-          → writeCache (b .cache) id w
+      cached-write : (a x y : Bool) → ltb 65528 (length w) ≡ a → isInput (offerOf pvr) id ≡ x → eqb (length w) (elementOf id .size) ≡ y
+          → writeCache pvr (b .cache) id w
           ≡ cond a (record { answer = refusal Length; cache = b .cache })
           (cond (not x) (record { answer = refusal (Element Id placeZero); cache = b .cache })
           (cond (not y) (record { answer = refusal (Element Size placeZero); cache = b .cache }) (record { answer = success 0; cache = change (b .cache) id w })))
       unfolding writeCache
       cached-write a x y p q r =
           ap₂ (λ (t u : Bool). cond (not t) (record { answer = refusal CacheBad; cache = b .cache }) (cond u (record { answer = refusal Length; cache = b .cache })
-          (cond (not (isInput id)) (record { answer = refusal (Element Id placeZero); cache = b .cache })
+          (cond (not (isInput (offerOf pvr) id)) (record { answer = refusal (Element Id placeZero); cache = b .cache })
           (cond (not (eqb (length w) (elementOf id .size))) (record { answer = refusal (Element Size placeZero); cache = b .cache }) (record { answer = success 0; cache = change (b .cache) id w }))))) cache-good p
           ∙ ap₂ (λ (t u : Bool). cond a (record { answer = refusal Length; cache = b .cache })
           (cond (not t) (record { answer = refusal (Element Id placeZero); cache = b .cache })
           (cond (not u) (record { answer = refusal (Element Size placeZero); cache = b .cache }) (record { answer = success 0; cache = change (b .cache) id w })))) q r
 
       -- a turn by what each side did
-      wrote : (r : WriteOutcome) (o : Outcome) → writeCache (b .cache) id w ≡ r → writePlain l p g v id w ≡ o
+      wrote : (r : WriteOutcome) (o : Outcome) → writeCache pvr (b .cache) id w ≡ r → writePlain l p g v id w ≡ o
           → Goes b (Write id w) ws (record { shown = seen Name.CacheWrite (r .answer) []; next = record { cache = r .cache; store = b .store }; input = [] }) (record { shown = seen Name.SetState (o .answer) []; next = o .store; input = [] })
-          → Goes b (Write id w) ws (cachedTurn l g v (Write id w) b) (plainTurn l g v (Write id w) p)
+          → Goes b (Write id w) ws (cachedTurn l g v pvr (Write id w) b) (plainTurn l g v (Write id w) p)
       unfolding cachedTurn plainTurn
       wrote r o e q t =
           as-turned b (Write id w) ws _ _ _ _
           (ap (λ (x : WriteOutcome). record { shown = seen Name.CacheWrite (x .answer) []; next = record { cache = x .cache; store = b .store }; input = [] }) e)
           (ap (λ (x : Outcome). record { shown = seen Name.SetState (x .answer) []; next = x .store; input = [] }) q) t
 
-      pub write-turn : Goes b (Write id w) ws (cachedTurn l g v (Write id w) b) (plainTurn l g v (Write id w) p)
+      pub write-turn : Goes b (Write id w) ws (cachedTurn l g v pvr (Write id w) b) (plainTurn l g v (Write id w) p)
       unfolding since
       write-turn = by-length (ltb 65528 (length w)) refl
         where
-          by-size : ltb 65528 (length w) ≡ false → isInput id ≡ true → (y : Bool) → eqb (length w) (elementOf id .size) ≡ y
-              → Goes b (Write id w) ws (cachedTurn l g v (Write id w) b) (plainTurn l g v (Write id w) p)
+          by-size : ltb 65528 (length w) ≡ false → isInput (offerOf pvr) id ≡ true → (y : Bool) → eqb (length w) (elementOf id .size) ≡ y
+              → Goes b (Write id w) ws (cachedTurn l g v pvr (Write id w) b) (plainTurn l g v (Write id w) p)
           by-size a x true e =
-              wrote (record { answer = success 0; cache = change (b .cache) id w }) (accept 0 (placed at (id, w) p)) (cached-write false true true a x e) (write-good l so g v j below p plain-ours id w a (input-common id x) small x e)
+              wrote (record { answer = success 0; cache = change (b .cache) id w }) (accept 0 (placed at (id, w) p)) (cached-write false true true a x e) (write-good l so g v j below pvr p plain-ours id w a (input-common (offerOf pvr) id x) small x e)
               (record { same = record { shown = refl; stores = tt; input = tt }; next = write-inv id w x (eqb-true _ _ e) })
           by-size a x false e =
-              wrote (record { answer = refusal (Element Size placeZero); cache = b .cache }) (refuse p [] (Element Size firstPlace)) (cached-write false true false a x e) (write-size l so g v j below p plain-ours id w a (input-common id x) small x e)
+              wrote (record { answer = refusal (Element Size placeZero); cache = b .cache }) (refuse p [] (Element Size firstPlace)) (cached-write false true false a x e) (write-size l so g v j below pvr p plain-ours id w a (input-common (offerOf pvr) id x) small x e)
               (record { same = record { shown = refl; stores = tt; input = tt }; next = i })
 
-          by-special : ltb 65528 (length w) ≡ false → isInput id ≡ false → (u : Bool) → isSpecial id ≡ u → Goes b (Write id w) ws (cachedTurn l g v (Write id w) b) (plainTurn l g v (Write id w) p)
+          by-special : ltb 65528 (length w) ≡ false → isInput (offerOf pvr) id ≡ false → (u : Bool) → isSpecial id ≡ u → Goes b (Write id w) ws (cachedTurn l g v pvr (Write id w) b) (plainTurn l g v (Write id w) p)
           by-special a x true e =
-              wrote (record { answer = refusal (Element Id placeZero); cache = b .cache }) (refuse p [] (Element Id placeZero)) (cached-write false false (eqb (length w) (elementOf id .size)) a x refl) (write-special l so g v j below p plain-ours id w a e)
+              wrote (record { answer = refusal (Element Id placeZero); cache = b .cache }) (refuse p [] (Element Id placeZero)) (cached-write false false (eqb (length w) (elementOf id .size)) a x refl) (write-special l so g v j below pvr p plain-ours id w a e)
               (record { same = record { shown = refl; stores = tt; input = tt }; next = i })
           by-special a x false e =
-              wrote (record { answer = refusal (Element Id placeZero); cache = b .cache }) (refuse p [] (Element Id firstPlace)) (cached-write false false (eqb (length w) (elementOf id .size)) a x refl) (write-id l so g v j below p plain-ours id w a e small x)
+              wrote (record { answer = refusal (Element Id placeZero); cache = b .cache }) (refuse p [] (Element Id firstPlace)) (cached-write false false (eqb (length w) (elementOf id .size)) a x refl) (write-id l so g v j below pvr p plain-ours id w a e small x)
               (record { same = record { shown = refl; stores = tt; input = tt }; next = i })
 
-          by-input : ltb 65528 (length w) ≡ false → (x : Bool) → isInput id ≡ x → Goes b (Write id w) ws (cachedTurn l g v (Write id w) b) (plainTurn l g v (Write id w) p)
+          by-input : ltb 65528 (length w) ≡ false → (x : Bool) → isInput (offerOf pvr) id ≡ x → Goes b (Write id w) ws (cachedTurn l g v pvr (Write id w) b) (plainTurn l g v (Write id w) p)
           by-input a true x = by-size a x (eqb (length w) (elementOf id .size)) refl
           by-input a false x = by-special a x (isSpecial id) refl
 
-          by-length : (a : Bool) → ltb 65528 (length w) ≡ a → Goes b (Write id w) ws (cachedTurn l g v (Write id w) b) (plainTurn l g v (Write id w) p)
+          by-length : (a : Bool) → ltb 65528 (length w) ≡ a → Goes b (Write id w) ws (cachedTurn l g v pvr (Write id w) b) (plainTurn l g v (Write id w) p)
           by-length true a =
-              wrote (record { answer = refusal Length; cache = b .cache }) (refuse p [] Length) (cached-write true (isInput id) (eqb (length w) (elementOf id .size)) a refl refl) (write-long l so g v j below p plain-ours id w a)
+              wrote (record { answer = refusal Length; cache = b .cache }) (refuse p [] Length) (cached-write true (isInput (offerOf pvr) id) (eqb (length w) (elementOf id .size)) a refl refl) (write-long l so g v j below pvr p plain-ours id w a)
               (record { same = record { shown = refl; stores = tt; input = tt }; next = i })
-          by-length false a = by-input a (isInput id) refl
+          by-length false a = by-input a (isInput (offerOf pvr) id) refl

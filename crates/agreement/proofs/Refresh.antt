@@ -85,12 +85,12 @@ module _ (base : ℕ) (s : List ℕ) (room : base + 1820 ≤ length s) where
       (marked-all ids n few b k (zeros 6) ∙ sym (keep-mark base s ids (record { values = c .values; marks = zeros 6 })))
 
 -- ---- kept one by one, they are tied to the store that they are from
-module _ (l : Layout) (so : Sound l) (g v j : ℕ) (below-slots : j < l .slots) (t : List ℕ) (o : Ours l so g v j below-slots t)
-    (gi : goodInput (inputSize t (at l so g v j below-slots)) ≡ true) (wd : 2424 ≤ inputSize t (at l so g v j below-slots)) (gu : goodOutput (outputSize t (at l so g v j below-slots)) ≡ true) where
+module _ (l : Layout) (so : Sound l) (g v j : ℕ) (below-slots : j < l .slots) (pvr : ℕ) (t : List ℕ) (o : Ours l so g v j below-slots pvr t)
+    (gi : goodInput (inputSize t (at l so g v j below-slots pvr)) ≡ true) (wd : 2424 ≤ inputSize t (at l so g v j below-slots pvr)) (gu : goodOutput (outputSize t (at l so g v j below-slots pvr)) ≡ true) where
   abbrev place : ℕ
-  place = at l so g v j below-slots
+  place = at l so g v j below-slots pvr
 
-  pub empty-inv : (values : List ℕ) → length values ≡ 1820 → Inv l so g v j below-slots (record { cache = record { values = values; marks = zeros 6 }; store = t }) t []
+  pub empty-inv : (values : List ℕ) → length values ≡ 1820 → Inv l so g v j below-slots pvr (record { cache = record { values = values; marks = zeros 6 }; store = t }) t []
   unfolding newest
   empty-inv values lv = record {
     ours = o;
@@ -111,7 +111,7 @@ module _ (l : Layout) (so : Sound l) (g v j : ℕ) (below-slots : j < l .slots) 
       never e = let z : _≡_ {A = ℕ} 0 1 = cc in omega arith
 
   -- no mark is changed where nothing waits
-  still : (b : Cached) → Inv l so g v j below-slots b t [] → (e : ℕ) → e < 170 → changed (b .cache) e ≡ false
+  still : (b : Cached) → Inv l so g v j below-slots pvr b t [] → (e : ℕ) → e < 170 → changed (b .cache) e ≡ false
   unfolding newest
   still b i e h = go (changed (b .cache) e) (i .due e h)
     where
@@ -119,9 +119,9 @@ module _ (l : Layout) (so : Sound l) (g v j : ℕ) (below-slots : j < l .slots) 
       go true q = let z : _≡_ {A = ℕ} 1 0 = ap length q in absurd (omega arith)
       go false q = refl
 
-  pub keep-all-inv : (ids : List ℕ) → AllNamed ids → (c : Cache) → Inv l so g v j below-slots (record { cache = c; store = t }) t [] → Inv l so g v j below-slots (record { cache = keepAll c (valued place t ids); store = t }) t []
+  pub keep-all-inv : (ids : List ℕ) → AllNamed ids → (c : Cache) → Inv l so g v j below-slots pvr (record { cache = c; store = t }) t [] → Inv l so g v j below-slots pvr (record { cache = keepAll c (valued place t ids); store = t }) t []
   unfolding valued keepAll
   keep-all-inv [] n c i = i
   keep-all-inv (id ∷ ids) n c i =
       keep-all-inv ids (n .1) (keep c id (valueOf place t id))
-      (keep-inv l so g v j below-slots (record { cache = c; store = t }) t [] i id (n .0) (still (record { cache = c; store = t }) i (numberOf id) (named-number id (n .0))))
+      (keep-inv l so g v j below-slots pvr (record { cache = c; store = t }) t [] i id (n .0) (still (record { cache = c; store = t }) i (numberOf id) (named-number id (n .0))))

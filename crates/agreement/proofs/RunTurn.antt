@@ -7,8 +7,9 @@ use native.Mathlib.Omega.{arith}
 use lib.Dec.{eqb, ltb, leb}
 use lib.ListN.{length}
 use borrow.Author.Tests.{le-ltb, ltb-false, leb-true, not-false, eqb-true, ne-eqb}
-use Rattle.octets.specs.Bytes.{bytesAt, put, zeros}
+use Rattle.octets.specs.Bytes.{bytesAt, put, be, zeros, right}
 use Rattle.octets.proofs.Bytes.{length-put, length-zeros}
+use Rattle.octets.proofs.Numbers.{be-part}
 use Rattle.answer.specs.declared.Fault.{Fault}
 use Rattle.answer.specs.declared.Fault.the-variants.{None, Store, Flag, Guest, Token, Capability, Vcpu, Length, Element, Room, Exists, Unregistered, Short, Exit, Effect, Cache as CacheBad, Taken, Form, InUse}
 use Rattle.answer.specs.declared.RunBuffer.the-variants.{Input, Output}
@@ -16,17 +17,22 @@ use Rattle.answer.specs.declared.Call.{Call as Name}
 use Rattle.answer.specs.declared.Registers.{Registers}
 use Rattle.answer.specs.Answer.{told}
 use Rattle.answer.specs.Refusals.{firstOf}
+use Rattle.elements.specs.declared.Scope.the-variants.{Guest as GuestWide}
+use Rattle.elements.specs.Table.{position}
+use Rattle.elements.specs.Later.{offerOf}
+use Rattle.rules.specs.declared.Context.{Context}
 use Rattle.rules.specs.declared.Usage.the-variants.{RunInput, Effect as InEffect}
 use Rattle.rules.specs.Rules.{goodInput, goodOutput}
 use Rattle.gsb.specs.declared.Walked.{Walked}
 use Rattle.gsb.specs.declared.Walked.the-variants.{Done, Stopped}
 use Rattle.gsb.specs.Walk.{countOf, badLength, firstBad}
 use Rattle.gsb.specs.Message.{message, Begins}
-use Rattle.gsb.proofs.RoundTrip.{begins-put, begins-first, zeros-first, zeros-good}
+use Rattle.gsb.proofs.RoundTrip.{begins-self, begins-put, begins-first, zeros-first, zeros-good}
 use Rattle.store.specs.declared.Layout.{Layout}
-use Rattle.store.specs.Layout.{Sound}
+use Rattle.store.specs.Layout.{Sound, guestBytes, guestAt}
 use Rattle.store.specs.Header.{header, capabilitiesOf, live, slotOf, isTaken}
 use Rattle.store.proofs.Search.{both}
+use Rattle.store.proofs.Tests.{live-parts}
 use Rattle.transfer.specs.Transfer.{applied}
 use Rattle.transfer.proofs.Messages.{applied-zeros}
 use Rattle.exits.specs.Exits.{known, returned, valued, outputOf}
@@ -34,17 +40,19 @@ use Rattle.exits.proofs.Rows.{length-output, output-short, returned-few}
 use Rattle.admission.specs.declared.Admission.{Admission}
 use Rattle.admission.specs.declared.Admission.the-variants.{Admitted, Refused}
 use Rattle.admission.specs.Refusals.{Outcome, success, refusal, refuse, decide, judgement, unsupported}
-use Rattle.state.specs.State.{contextOf, isStopped, faultOf}
+use Rattle.state.proofs.Buffers.{pvr-place}
+use Rattle.state.specs.State.{pvrOf, contextOf, isStopped, faultOf}
 use Rattle.run.specs.Run.{runBits, inputSize, outputSize, lentTests, effectFault, exitTests, runTargetTests, inputOf, contentTests, ranStore, ran, runVcpu}
 use Rattle.admission.proofs.Judging.{begin-refused, begin-admitted, all-refused, all-admitted, judged-passed}
 use Rattle.promises.proofs.Kept.{applied-header, applied-kept}
+use Rattle.transfer.proofs.Named.{beside}
 use Rattle.promises.proofs.Lowest.{Real}
 use Rattle.promises.proofs.Told.{none-told}
 use Rattle.l1.specs.Marks.{Cache}
-use Rattle.l1.specs.Cache.{pending, refreshed, RunOutcome, ranWith, runCache}
+use Rattle.l1.specs.Cache.{Fit, pending, refreshed, RunOutcome, ranWith, runCache}
 use Rattle.agreement.specs.Plain.{runPlain}
 use Rattle.agreement.specs.Agree.{Op, Run, seen, Turn, Cached, cachedTurn, plainTurn, since, inOrder, Holds, registeredInput}
-use Rattle.agreement.proofs.Ours.{Ours, ours-base, ours-room, back-header, back-input, back-output}
+use Rattle.agreement.proofs.Ours.{Ours, ours-base, ours-live, ours-context, ours-room, back-header, back-input, back-output}
 use Rattle.agreement.proofs.Caches.{pending-due}
 use Rattle.agreement.proofs.Invariant.{at, Inv, Goes, as-turned, plain-ours, cache-good}
 use Rattle.agreement.proofs.Flush.{due-applied, due-good, due-need, due-held}
@@ -86,13 +94,18 @@ real-fault (x ∷ xs) r f e = go (x .0) refl e (real-fault xs (r .1) f)
     go true q h ih n = r .0 q (same h ∙ n)
     go false q h ih n = ih h n
 
+-- a test that does not hold says nothing
+past-false : {A : Type 0} (refuse : Fault → A) (o : A) (xs : List (Bool × Fault)) (f : Fault) (ys : List (Bool × Fault)) → firstOf refuse (xs ++ ((false, f) ∷ ys)) o ≡ firstOf refuse (xs ++ ys) o
+past-false refuse o [] f ys = refl
+past-false refuse o (x ∷ xs) f ys = ap (cond (x .0) (refuse (x .1))) (past-false refuse o xs f ys)
+
 effect-real : (w : Walked) → isStopped w ≡ true → effectFault w ≡ None → ⊥
 effect-real Done e q = let z : _≡_ {A = ℕ} 0 1 = cc in omega arith
 effect-real (Stopped bad place) e q = let z : _≡_ {A = ℕ} 0 1 = cc in omega arith
 
-module _ (l : Layout) (so : Sound l) (g v j : ℕ) (below-slots : j < l .slots) (flags : ℕ) (input output effect : List ℕ) (exit : ℕ) where
+module _ (l : Layout) (so : Sound l) (g v j : ℕ) (below-slots : j < l .slots) (pvr flags : ℕ) (input output effect : List ℕ) (exit : ℕ) where
   abbrev place : ℕ
-  place = at l so g v j below-slots
+  place = at l so g v j below-slots pvr
 
   -- ---- the tests 1 to 12, by the header and the two sizes alone
   common : List ℕ → ℕ → ℕ → List (Bool × Fault)
@@ -125,11 +138,11 @@ module _ (l : Layout) (so : Sound l) (g v j : ℕ) (below-slots : j < l .slots) 
     ),
   )
 
-  run-target-common : (s : List ℕ) → Ours l so g v j below-slots s → (need lent : ℕ) → need ≤ inputSize s place → lent ≡ length input
+  run-target-common : (s : List ℕ) → Ours l so g v j below-slots pvr s → (need lent : ℕ) → need ≤ inputSize s place → lent ≡ length input
       → runTargetTests l s flags g v need lent (length output) ≡ common (header l s) (inputSize s place) (outputSize s place)
   unfolding common
   run-target-common s o need lent k e =
-      ap₂ (λ (t : Bool) (x : ℕ). ((not t, Store) ∷ unsupported runBits flags ∷ (not (live l (header l s) g), Guest) ∷ (leb (l .slots) (slotOf l (header l s) g v), Vcpu) ∷ (isTaken l (header l s) (slotOf l (header l s) g v), Taken) ∷ []) ++ lentTests s x need lent (length output)) (o .good) (ours-base l so g v j below-slots s o)
+      ap₂ (λ (t : Bool) (x : ℕ). ((not t, Store) ∷ unsupported runBits flags ∷ (not (live l (header l s) g), Guest) ∷ (leb (l .slots) (slotOf l (header l s) g v), Vcpu) ∷ (isTaken l (header l s) (slotOf l (header l s) g v), Taken) ∷ []) ++ lentTests s x need lent (length output)) (o .good) (ours-base l so g v j below-slots pvr s o)
       ∙ ap₂ (λ (n : ℕ) (z : Bool). (false, Store) ∷ unsupported runBits flags ∷ (not (live l (header l s) g), Guest) ∷ (leb (l .slots) (slotOf l (header l s) g v), Vcpu) ∷ (isTaken l (header l s) (slotOf l (header l s) g v), Taken)
       ∷ (not (goodInput (inputSize s place)), Unregistered Input) ∷ (not (goodOutput (outputSize s place)), Unregistered Output) ∷ (ltb n (inputSize s place) || z, Short Input) ∷ (ltb (length output) (outputSize s place), Short Output) ∷ [])
       e (le-ltb (inputSize s place) need k)
@@ -159,55 +172,57 @@ module _ (l : Layout) (so : Sound l) (g v j : ℕ) (below-slots : j < l .slots) 
 
   -- ---- 13 and 14
   abbrev ends : List ℕ → List (Bool × Fault)
-  ends s = exitTests l s effect exit
+  ends s = exitTests (contextOf l s g InEffect) effect exit
 
-  ends-same : (s t : List ℕ) → header l t ≡ header l s → ends t ≡ ends s
-  ends-same s t e =
-      ap (λ (h : List ℕ). (not (known exit), Exit) ∷ (badLength effect, Effect (record { index = 0; offset = 0 }))
-      ∷ (isStopped (firstBad (record { usage = InEffect; capabilities = capabilitiesOf h }) effect), effectFault (firstBad (record { usage = InEffect; capabilities = capabilitiesOf h }) effect)) ∷ []) e
+  ends-same : (s t : List ℕ) → Ours l so g v j below-slots pvr s → Ours l so g v j below-slots pvr t → header l t ≡ header l s → ends t ≡ ends s
+  ends-same s t a b e =
+      ap (λ (k : Context). exitTests k effect exit)
+      (ours-context l so g v j below-slots pvr t b InEffect
+      ∙ ap (λ (h : List ℕ). record { usage = InEffect; capabilities = capabilitiesOf h; offer = offerOf pvr }) e
+      ∙ sym (ours-context l so g v j below-slots pvr s a InEffect))
 
   ends-real : (s : List ℕ) → Real (ends s)
   ends-real s =
-      ((λ t z. let y : _≡_ {A = ℕ} 0 1 = cc in omega arith), ((λ t z. let y : _≡_ {A = ℕ} 0 1 = cc in omega arith), (effect-real (firstBad (contextOf l s InEffect) effect), tt)))
+      ((λ t z. let y : _≡_ {A = ℕ} 0 1 = cc in omega arith), ((λ t z. let y : _≡_ {A = ℕ} 0 1 = cc in omega arith), (effect-real (firstBad (contextOf l s g InEffect) effect), tt)))
 
   -- ---- a run on a store, given an input that is good: past 12 it is 13, 14 and what it does
-  module _ (s : List ℕ) (o : Ours l so g v j below-slots s) (lent : List ℕ) (n : length lent ≡ length input) where
+  module _ (s : List ℕ) (o : Ours l so g v j below-slots pvr s) (lent : List ℕ) (n : length lent ≡ length input) where
     abbrev counts : List ℕ
     counts = bytesAt lent 0 (inputSize s place)
 
     run-as : runVcpu l s flags g v lent output effect exit
-        ≡ firstOf (refuse s output) (common (header l s) (inputSize s place) (outputSize s place) ++ contentTests l s counts effect exit) (ran place s counts output effect exit)
+        ≡ firstOf (refuse s output) (common (header l s) (inputSize s place) (outputSize s place) ++ contentTests l s g counts effect exit) (ran place s counts output effect exit)
     unfolding runVcpu decide
     run-as =
-        ap₂ (λ (xs : List (Bool × Fault)) (x : ℕ). firstOf (refuse s output) (xs ++ contentTests l s (inputOf s x lent) effect exit) (ran x s (inputOf s x lent) output effect exit))
-        (run-target-common s o 0 (length lent) (omega arith) n) (ours-base l so g v j below-slots s o)
+        ap₂ (λ (xs : List (Bool × Fault)) (x : ℕ). firstOf (refuse s output) (xs ++ contentTests l s g (inputOf s x lent) effect exit) (ran x s (inputOf s x lent) output effect exit))
+        (run-target-common s o 0 (length lent) (omega arith) n) (ours-base l so g v j below-slots pvr s o)
 
     run-off : (f : Fault) → judgement (common (header l s) (inputSize s place) (outputSize s place)) ≡ Refused f → runVcpu l s flags g v lent output effect exit ≡ refuse s output f
     run-off f e =
-        run-as ∙ begin-refused (refuse s output) (ran place s counts output effect exit) (common (header l s) (inputSize s place) (outputSize s place)) (contentTests l s counts effect exit) f e
+        run-as ∙ begin-refused (refuse s output) (ran place s counts output effect exit) (common (header l s) (inputSize s place) (outputSize s place)) (contentTests l s g counts effect exit) f e
 
-    run-on : judgement (common (header l s) (inputSize s place) (outputSize s place)) ≡ Admitted → firstBad (contextOf l s RunInput) counts ≡ Done
+    run-on : judgement (common (header l s) (inputSize s place) (outputSize s place)) ≡ Admitted → firstBad (contextOf l s g RunInput) counts ≡ Done
         → runVcpu l s flags g v lent output effect exit ≡ firstOf (refuse s output) (ends s) (ran place s counts output effect exit)
     run-on e d =
-        run-as ∙ begin-admitted (refuse s output) (ran place s counts output effect exit) (common (header l s) (inputSize s place) (outputSize s place)) (contentTests l s counts effect exit) e
+        run-as ∙ begin-admitted (refuse s output) (ran place s counts output effect exit) (common (header l s) (inputSize s place) (outputSize s place)) (contentTests l s g counts effect exit) e
         ∙ ap (λ (w : Walked). cond (isStopped w) (refuse s output (faultOf w)) (firstOf (refuse s output) (ends s) (ran place s counts output effect exit))) d
 
   -- ---- both L1s
-  module _ (b : Cached) (p : List ℕ) (ws : List (ℕ × List ℕ)) (i : Inv l so g v j below-slots b p ws) where
+  module _ (b : Cached) (p : List ℕ) (ws : List (ℕ × List ℕ)) (i : Inv l so g v j below-slots pvr b p ws) where
     abbrev s : List ℕ
     s = b .store
 
-    plain-is : Ours l so g v j below-slots p
-    plain-is = plain-ours l so g v j below-slots b p ws i
+    plain-is : Ours l so g v j below-slots pvr p
+    plain-is = plain-ours l so g v j below-slots pvr b p ws i
 
     same-header : header l p ≡ header l s
-    same-header = ap (header l) (i .plain) ∙ back-header l so g v j below-slots s ws (i .fit)
+    same-header = ap (header l) (i .plain) ∙ back-header l so g v j below-slots pvr s ws (i .fit)
 
     same-input : inputSize p place ≡ inputSize s place
-    same-input = ap (λ (x : List ℕ). inputSize x place) (i .plain) ∙ back-input l so g v j below-slots s ws (i .fit)
+    same-input = ap (λ (x : List ℕ). inputSize x place) (i .plain) ∙ back-input l so g v j below-slots pvr s ws (i .fit)
 
     same-output : outputSize p place ≡ outputSize s place
-    same-output = ap (λ (x : List ℕ). outputSize x place) (i .plain) ∙ back-output l so g v j below-slots s ws (i .fit)
+    same-output = ap (λ (x : List ℕ). outputSize x place) (i .plain) ∙ back-output l so g v j below-slots pvr s ws (i .fit)
 
     abbrev firsts : List (Bool × Fault)
     firsts = common (header l s) (inputSize s place) (outputSize s place)
@@ -220,7 +235,7 @@ module _ (l : Layout) (so : Sound l) (g v j : ℕ) (below-slots : j < l .slots) 
     waits = pending-due (b .cache) ws (i .due)
 
     need-fits : length (message (pending (b .cache))) ≤ inputSize s place
-    need-fits = omega (arith, ap (λ (es : List (ℕ × List ℕ)). length (message es)) waits, due-need ws (i .fit), i .wide)
+    need-fits = omega (arith, ap (λ (es : List (ℕ × List ℕ)). length (message es)) waits, due-need (offerOf pvr) ws (i .fit), i .wide)
 
     abbrev laid : List ℕ
     laid = put input 0 (message (pending (b .cache)))
@@ -231,11 +246,22 @@ module _ (l : Layout) (so : Sound l) (g v j : ℕ) (below-slots : j < l .slots) 
     abbrev goneOn : RunOutcome
     goneOn = ranWith (b .cache) laid (runVcpu l s flags g v laid output effect exit)
 
-    cached-as : runCache l s (b .cache) flags g v input output effect exit ≡ firstOf refusedRun (firsts ++ ends s) goneOn
+    -- the writes that wait fit the guest's own list, which is the one that the cache goes by
+    own-fit : Fit (offerOf (pvrOf l s g)) ws
+    own-fit = subst (λ (n : ℕ). Fit (offerOf n) ws) (sym (i .ours .told)) (i .fit)
+
+    sent-good : firstBad (contextOf l s g RunInput) (message (pending (b .cache))) ≡ Done
+    sent-good =
+        ap (λ (es : List (ℕ × List ℕ)). firstBad (contextOf l s g RunInput) (message es)) waits
+        ∙ due-good (contextOf l s g RunInput) refl ws own-fit (message (inOrder ws 170)) (begins-self (message (inOrder ws 170)))
+
+    cached-as : runCache l s (b .cache) flags g v pvr input output effect exit ≡ firstOf refusedRun (firsts ++ ends s) goneOn
     unfolding runCache
     cached-as =
-        ap₂ (λ (t : Bool) (xs : List (Bool × Fault)). cond (not t) (refusedRun CacheBad) (firstOf refusedRun (xs ++ ends s) goneOn))
-        (cache-good l so g v j below-slots b p ws i) (run-target-common s (i .ours) (length (message (pending (b .cache)))) (length input) need-fits refl)
+        ap₂ (λ (t : Bool) (xs : List (Bool × Fault)). cond (not t) (refusedRun CacheBad) (firstOf refusedRun (xs ++ contentTests l s g (message (pending (b .cache))) effect exit) goneOn))
+        (cache-good l so g v j below-slots pvr b p ws i) (run-target-common s (i .ours) (length (message (pending (b .cache)))) (length input) need-fits refl)
+        ∙ ap (λ (w : Walked). firstOf refusedRun (firsts ++ ((isStopped w, faultOf w) ∷ ends s)) goneOn) sent-good
+        ∙ past-false refusedRun goneOn firsts None (ends s)
 
     -- ---- the plain run: its input holds no element
     abbrev blank : List ℕ
@@ -258,8 +284,8 @@ module _ (l : Layout) (so : Sound l) (g v j : ℕ) (below-slots : j < l .slots) 
       plain-on : runPlain l p flags g v input output effect exit ≡ firstOf (refuse p output) (ends s) (ran place p (zeros (inputSize s place)) output effect exit)
       unfolding runPlain
       plain-on =
-          run-on p plain-is blank blank-long (ap judgement plain-firsts ∙ e) (ap (firstBad (contextOf l p RunInput)) blank-part ∙ zeros-good (contextOf l p RunInput) (inputSize s place) (open-lent .some))
-          ∙ ap₂ (λ (xs : List (Bool × Fault)) (x : List ℕ). firstOf (refuse p output) xs (ran place p x output effect exit)) (ends-same s p same-header) blank-part
+          run-on p plain-is blank blank-long (ap judgement plain-firsts ∙ e) (ap (firstBad (contextOf l p g RunInput)) blank-part ∙ zeros-good (contextOf l p g RunInput) (inputSize s place) (open-lent .some))
+          ∙ ap₂ (λ (xs : List (Bool × Fault)) (x : List ℕ). firstOf (refuse p output) xs (ran place p x output effect exit)) (ends-same s p (i .ours) plain-is same-header) blank-part
 
       -- the store after the run, of both
       abbrev after : List ℕ
@@ -279,7 +305,7 @@ module _ (l : Layout) (so : Sound l) (g v j : ℕ) (below-slots : j < l .slots) 
 
       cached-store : ranStore place (bytesAt laid 0 (inputSize s place)) effect s ≡ after
       unfolding ranStore
-      cached-store = ap (applied place effect (countOf effect)) (due-applied place s ws (i .fit) (bytesAt laid 0 (inputSize s place)) laid-begins ∙ sym (i .plain))
+      cached-store = ap (applied place effect (countOf effect)) (due-applied (offerOf pvr) place s ws (i .fit) (bytesAt laid 0 (inputSize s place)) laid-begins ∙ sym (i .plain))
 
       -- what both leave
       abbrev left : Outcome
@@ -291,7 +317,7 @@ module _ (l : Layout) (so : Sound l) (g v j : ℕ) (below-slots : j < l .slots) 
 
       cached-ran : judgement (ends s) ≡ Admitted → runVcpu l s flags g v laid output effect exit ≡ left
       cached-ran a =
-          run-on s (i .ours) laid (length-put input 0 (message (pending (b .cache)))) e (due-good (contextOf l s RunInput) refl ws (i .fit) (bytesAt laid 0 (inputSize s place)) laid-begins)
+          run-on s (i .ours) laid (length-put input 0 (message (pending (b .cache)))) e (due-good (contextOf l s g RunInput) refl ws own-fit (bytesAt laid 0 (inputSize s place)) laid-begins)
           ∙ all-admitted (refuse s output) (ran place s (bytesAt laid 0 (inputSize s place)) output effect exit) (ends s) a
           ∙ left-by s (bytesAt laid 0 (inputSize s place)) cached-store
 
@@ -305,17 +331,17 @@ module _ (l : Layout) (so : Sound l) (g v j : ℕ) (below-slots : j < l .slots) 
     abbrev op : Op
     op = Run flags input output effect exit
 
-    ran-turn : (r : RunOutcome) (o : Outcome) → runCache l s (b .cache) flags g v input output effect exit ≡ r → runPlain l p flags g v input output effect exit ≡ o
-        → Goes l so g v j below-slots b op ws (cachedOf r) (plainOf o) → Goes l so g v j below-slots b op ws (cachedTurn l g v op b) (plainTurn l g v op p)
+    ran-turn : (r : RunOutcome) (o : Outcome) → runCache l s (b .cache) flags g v pvr input output effect exit ≡ r → runPlain l p flags g v input output effect exit ≡ o
+        → Goes l so g v j below-slots pvr b op ws (cachedOf r) (plainOf o) → Goes l so g v j below-slots pvr b op ws (cachedTurn l g v pvr op b) (plainTurn l g v op p)
     unfolding cachedTurn plainTurn
-    ran-turn r o e q t = as-turned l so g v j below-slots b op ws _ _ _ _ (ap cachedOf e) (ap plainOf q) t
+    ran-turn r o e q t = as-turned l so g v j below-slots pvr b op ws _ _ _ _ (ap cachedOf e) (ap plainOf q) t
 
     -- a refusal keeps everything
-    refused-turn : (f : Fault) → (f ≡ None → ⊥) → Goes l so g v j below-slots b op ws (cachedOf (refusedRun f)) (plainOf (refuse p output f))
+    refused-turn : (f : Fault) → (f ≡ None → ⊥) → Goes l so g v j below-slots pvr b op ws (cachedOf (refusedRun f)) (plainOf (refuse p output f))
     unfolding since
     refused-turn f n = record {
       same = record { shown = ap (λ (r : Registers). record { answer = r; buffer = output }) (run-told f 0); stores = λ z. absurd (n (none-told Name.RunVcpu f 0 .0 (eqb-true _ _ z))); input = λ z. absurd (n (none-told Name.RunVcpu f 0 .0 (eqb-true _ _ z))) };
-      next = subst (λ (t : Bool). Inv l so g v j below-slots b p (cond t [] ws)) (sym (not-zero (told Name.RunVcpu f 0 .r3) (λ z. n (none-told Name.RunVcpu f 0 .0 z)))) i;
+      next = subst (λ (t : Bool). Inv l so g v j below-slots pvr b p (cond t [] ws)) (sym (not-zero (told Name.RunVcpu f 0 .r3) (λ z. n (none-told Name.RunVcpu f 0 .0 z)))) i;
     }
       where
         not-zero : (x : ℕ) → (x ≡ 0 → ⊥) → eqb x 0 ≡ false
@@ -323,10 +349,10 @@ module _ (l : Layout) (so : Sound l) (g v j : ℕ) (below-slots : j < l .slots) 
 
     -- ---- after an accepted run
     module _ (e : judgement firsts ≡ Admitted) (a : judgement (ends s) ≡ Admitted) where
-      walked : firstBad (contextOf l p InEffect) effect ≡ Done
+      walked : firstBad (contextOf l p g InEffect) effect ≡ Done
       walked =
-          let q = judged-passed (ends p) (ap judgement (ends-same s p same-header) ∙ a) in
-          done (firstBad (contextOf l p InEffect) effect) (q .1 .1 .0)
+          let q = judged-passed (ends p) (ap judgement (ends-same s p (i .ours) plain-is same-header) ∙ a) in
+          done (firstBad (contextOf l p g InEffect) effect) (q .1 .1 .0)
         where
           done : (w : Walked) → isStopped w ≡ false → w ≡ Done
           done Done d = refl
@@ -338,21 +364,34 @@ module _ (l : Layout) (so : Sound l) (g v j : ℕ) (below-slots : j < l .slots) 
       behind : l .«guests_at» ≤ place
       behind = omega (arith, so .guests-fit)
 
-      then-ours : Ours l so g v j below-slots then
+      -- the guest's own values lie before every slot
+      then-guest : bytesAt then (guestAt l g) guestBytes ≡ bytesAt p (guestAt l g) guestBytes
+      then-guest =
+          let r = live-parts l (header l p) g (ours-live l so g v j below-slots pvr p plain-is) in
+          beside (contextOf l p g InEffect) place effect walked p (guestAt l g) guestBytes (right (omega (arith, so .guests-fit, r .0, r .1)))
+
+      then-pvr : pvrOf l then g ≡ pvrOf l p g
+      then-pvr =
+          let q = pvr-place in
+          sym (be-part then (guestAt l g) guestBytes (position GuestWide 0x0003) 4 (omega (arith, q)))
+          ∙ ap (λ (x : List ℕ). be x (position GuestWide 0x0003) 4) then-guest ∙ be-part p (guestAt l g) guestBytes (position GuestWide 0x0003) 4 (omega (arith, q))
+
+      then-ours : Ours l so g v j below-slots pvr then
       then-ours = record {
         good = applied-kept l so place effect (countOf effect) p behind ∙ plain-is .good;
         slot = ap (λ (h : List ℕ). slotOf l h g v) (applied-header l so place effect (countOf effect) p behind) ∙ plain-is .slot;
         here = ap (λ (h : List ℕ). isTaken l h j) (applied-header l so place effect (countOf effect) p behind) ∙ plain-is .here;
+        told = then-pvr ∙ plain-is .told;
       }
 
       then-input : inputSize then place ≡ inputSize s place
-      then-input = effect-input (contextOf l p InEffect) refl place effect p walked ∙ same-input
+      then-input = effect-input (contextOf l p g InEffect) refl place effect p walked ∙ same-input
 
       then-output : outputSize then place ≡ outputSize s place
-      then-output = effect-output (contextOf l p InEffect) refl place effect p walked ∙ same-output
+      then-output = effect-output (contextOf l p g InEffect) refl place effect p walked ∙ same-output
 
       room : place + 1820 ≤ length then
-      room = ours-room l so g v j below-slots then then-ours
+      room = ours-room l so g v j below-slots pvr then then-ours
 
       few : length (returned exit) ≤ 170
       few = omega (arith, returned-few exit)
@@ -361,12 +400,12 @@ module _ (l : Layout) (so : Sound l) (g v j : ℕ) (below-slots : j < l .slots) 
       unfolding outputOf
       begun = begins-put output (outputOf place then exit) (omega (arith, length-output place then exit room, output-short exit, open-lent e .out))
 
-      next-inv : Inv l so g v j below-slots (record { cache = refreshed (b .cache) (put output 0 (outputOf place then exit)); store = then }) then []
+      next-inv : Inv l so g v j below-slots pvr (record { cache = refreshed (b .cache) (put output 0 (outputOf place then exit)); store = then }) then []
       next-inv =
-          subst (λ (c : Cache). Inv l so g v j below-slots (record { cache = c; store = then }) then [])
+          subst (λ (c : Cache). Inv l so g v j below-slots pvr (record { cache = c; store = then }) then [])
           (sym (refreshed-is place then room (b .cache) (returned exit) (returned-named exit) few (put output 0 (outputOf place then exit)) begun))
-          (keep-all-inv l so g v j below-slots then then-ours gi wd gu (returned exit) (returned-named exit) (record { values = b .cache .values; marks = zeros 6 })
-          (empty-inv l so g v j below-slots then then-ours gi wd gu (b .cache .values) (i .values)))
+          (keep-all-inv l so g v j below-slots pvr then then-ours gi wd gu (returned exit) (returned-named exit) (record { values = b .cache .values; marks = zeros 6 })
+          (empty-inv l so g v j below-slots pvr then then-ours gi wd gu (b .cache .values) (i .values)))
         where
           gi : goodInput (inputSize then place) ≡ true
           gi = ap goodInput then-input ∙ i .input
@@ -380,10 +419,10 @@ module _ (l : Layout) (so : Sound l) (g v j : ℕ) (below-slots : j < l .slots) 
       -- the input that it leaves
       held : Holds input (registeredInput l g v s) (inOrder ws 170) laid
       held =
-          subst (λ (n : ℕ). Holds input n (inOrder ws 170) laid) (sym (ap (inputSize s) (ours-base l so g v j below-slots s (i .ours))))
-          (due-held input laid (inputSize s place) ws (i .fit) (ap (λ (es : List (ℕ × List ℕ)). put input 0 (message es)) waits) (omega (arith, due-need ws (i .fit), i .wide)) (open-lent e .lent))
+          subst (λ (n : ℕ). Holds input n (inOrder ws 170) laid) (sym (ap (inputSize s) (ours-base l so g v j below-slots pvr s (i .ours))))
+          (due-held (offerOf pvr) input laid (inputSize s place) ws (i .fit) (ap (λ (es : List (ℕ × List ℕ)). put input 0 (message es)) waits) (omega (arith, due-need (offerOf pvr) ws (i .fit), i .wide)) (open-lent e .lent))
 
-      accepted-turn : Goes l so g v j below-slots b op ws (cachedTurn l g v op b) (plainTurn l g v op p)
+      accepted-turn : Goes l so g v j below-slots pvr b op ws (cachedTurn l g v pvr op b) (plainTurn l g v op p)
       unfolding since ranWith
       accepted-turn =
           ran-turn (ranWith (b .cache) laid (left e)) (left e)
@@ -394,16 +433,16 @@ module _ (l : Layout) (so : Sound l) (g v j : ℕ) (below-slots : j < l .slots) 
             next = next-inv;
           })
 
-    pub run-turn : Goes l so g v j below-slots b op ws (cachedTurn l g v op b) (plainTurn l g v op p)
+    pub run-turn : Goes l so g v j below-slots pvr b op ws (cachedTurn l g v pvr op b) (plainTurn l g v op p)
     run-turn = by-firsts (judgement firsts) refl
       where
-        by-ends : judgement firsts ≡ Admitted → (x : Admission) → judgement (ends s) ≡ x → Goes l so g v j below-slots b op ws (cachedTurn l g v op b) (plainTurn l g v op p)
+        by-ends : judgement firsts ≡ Admitted → (x : Admission) → judgement (ends s) ≡ x → Goes l so g v j below-slots pvr b op ws (cachedTurn l g v pvr op b) (plainTurn l g v op p)
         by-ends e Admitted q = accepted-turn e q
         by-ends e (Refused f) q =
             ran-turn (refusedRun f) (refuse p output f) (cached-as ∙ begin-admitted refusedRun goneOn firsts (ends s) e ∙ all-refused refusedRun goneOn (ends s) f q)
             (plain-on e ∙ all-refused (refuse p output) (ran place p (zeros (inputSize s place)) output effect exit) (ends s) f q) (refused-turn f (real-fault (ends s) (ends-real s) f q))
 
-        by-firsts : (x : Admission) → judgement firsts ≡ x → Goes l so g v j below-slots b op ws (cachedTurn l g v op b) (plainTurn l g v op p)
+        by-firsts : (x : Admission) → judgement firsts ≡ x → Goes l so g v j below-slots pvr b op ws (cachedTurn l g v pvr op b) (plainTurn l g v op p)
         by-firsts Admitted e = by-ends e (judgement (ends s)) refl
         by-firsts (Refused f) e =
             ran-turn (refusedRun f) (refuse p output f) (cached-as ∙ begin-refused refusedRun goneOn firsts (ends s) f e) (plain-off f e)

@@ -22,7 +22,11 @@ use Rattle.gsb.specs.declared.Walked.the-variants.{Done, Stopped}
 use Rattle.gsb.specs.Walk.{countOf, firstBad}
 use Rattle.gsb.specs.Message.{firstPlace}
 use Rattle.gsb.proofs.RoundTrip.{begins-self, wire-one, one-bad-length, one-element}
+use Rattle.elements.specs.declared.Offer.{Offer}
+use Rattle.elements.specs.Later.{offerOf}
+use Rattle.rules.specs.declared.Context.{Context}
 use Rattle.store.specs.declared.Layout.{Layout}
+use Rattle.store.specs.Header.{header, capabilitiesOf}
 use Rattle.store.specs.Layout.{Sound}
 use Rattle.transfer.specs.Transfer.{applied, filled}
 use Rattle.transfer.proofs.Messages.{place-cons, place-nil, applied-message, thread-numbered, filled-value-one}
@@ -34,35 +38,39 @@ use Rattle.promises.proofs.States.{skip}
 use Rattle.l1.specs.Marks.{allowed, isInput, isReadable, isSpecial}
 use Rattle.l1.specs.Cache.{placeZero, one, valueIn}
 use Rattle.agreement.specs.Plain.{writePlain, readPlain}
-use Rattle.l1.proofs.Cells.{element-size, element-place, named-end, named-fits, allowed-as, set-as-input, get-as-readable, input-named, readable-named, valueOf}
-use Rattle.agreement.proofs.Ours.{base, Ours, ours-base, ours-room, ours-target}
+use Rattle.l1.proofs.Cells.{element-size, element-place, named-end, named-fits, allowed-as, input-allowed, set-as-input, get-as-readable, input-named, readable-named, valueOf}
+use Rattle.agreement.proofs.Ours.{base, Ours, ours-base, ours-context, ours-room, ours-target}
 
 -- what a thread set takes beside the special ones has no value rule
-input-ruled : (c id : ℕ) (b : List ℕ) (at : ℕ) → isInput id ≡ true → goodValue (record { usage = ThreadSet; capabilities = c }) id b at ≡ true
-unfolding goodValue isInput
-input-ruled c id b at h =
-    value-run (record { usage = RunInput; capabilities = c }) id b at refl (allowed-as (record { usage = RunInput; capabilities = c }) id ∙ part (eqb id 0) h)
-  where
-    part : (t : Bool) → (not t && allowed RunInput id) ≡ true → allowed RunInput id ≡ true
-    part true e = let z : _≡_ {A = ℕ} 0 1 = cc in absurd (omega arith)
-    part false e = e
+input-ruled : (f : Offer) (c id : ℕ) (b : List ℕ) (at : ℕ) → isInput f id ≡ true → goodValue (record { usage = ThreadSet; capabilities = c; offer = f }) id b at ≡ true
+unfolding goodValue
+input-ruled f c id b at h =
+    let k : Context = record { usage = RunInput; capabilities = c; offer = f } in
+    value-run k id b at refl (allowed-as k id ∙ input-allowed f id h)
 
-module _ (l : Layout) (so : Sound l) (g v j : ℕ) (below : j < l .slots) (s : List ℕ) (o : Ours l so g v j below s) (id : ℕ) (w : List ℕ) where
+module _ (l : Layout) (so : Sound l) (g v j : ℕ) (below : j < l .slots) (pvr : ℕ) (s : List ℕ) (o : Ours l so g v j below pvr s) (id : ℕ) (w : List ℕ) where
   abbrev at : ℕ
-  at = base l so g v j below
+  at = base l so g v j below pvr
+
+  abbrev list : Offer
+  list = offerOf pvr
+
+  -- a context of the list that the cache goes by
+  abbrev by : Usage → Context
+  by usage = record { usage = usage; capabilities = capabilitiesOf (header l s); offer = offerOf pvr }
 
   -- past the tests 1 to 4 and 16
-  set-past : setState l s 0 g v (one id w) ≡ firstOf (refuse s []) (bufferTests l s ThreadSet (one id w)) (accept 0 (applied at (one id w) (countOf (one id w)) s))
+  set-past : setState l s 0 g v (one id w) ≡ firstOf (refuse s []) (bufferTests (contextOf l s g ThreadSet) (one id w)) (accept 0 (applied at (one id w) (countOf (one id w)) s))
   unfolding setState setElements decide
   set-past =
-      skip (refuse s []) (targetTests l s bit1 0 false g v) (bufferTests l s ThreadSet (one id w)) (accept 0 (applied (baseOf l s false g v) (one id w) (countOf (one id w)) s)) (ours-target l so g v j below s o)
-      ∙ ap (λ (b : ℕ). firstOf (refuse s []) (bufferTests l s ThreadSet (one id w)) (accept 0 (applied b (one id w) (countOf (one id w)) s))) (ours-base l so g v j below s o)
+      skip (refuse s []) (targetTests l s bit1 0 false g v) (bufferTests (contextOf l s g ThreadSet) (one id w)) (accept 0 (applied (baseOf l s false g v) (one id w) (countOf (one id w)) s)) (ours-target l so g v j below pvr s o)
+      ∙ ap (λ (b : ℕ). firstOf (refuse s []) (bufferTests (contextOf l s g ThreadSet) (one id w)) (accept 0 (applied b (one id w) (countOf (one id w)) s))) (ours-base l so g v j below pvr s o)
 
-  get-past : getState l s 0 g v (one id w) ≡ firstOf (refuse s (one id w)) (bufferTests l s ThreadGet (one id w)) (fillWith s at (one id w))
+  get-past : getState l s 0 g v (one id w) ≡ firstOf (refuse s (one id w)) (bufferTests (contextOf l s g ThreadGet) (one id w)) (fillWith s at (one id w))
   unfolding getState getElements decide
   get-past =
-      skip (refuse s (one id w)) (targetTests l s bit1 0 false g v) (bufferTests l s ThreadGet (one id w)) (fillWith s (baseOf l s false g v) (one id w)) (ours-target l so g v j below s o)
-      ∙ ap (λ (b : ℕ). firstOf (refuse s (one id w)) (bufferTests l s ThreadGet (one id w)) (fillWith s b (one id w))) (ours-base l so g v j below s o)
+      skip (refuse s (one id w)) (targetTests l s bit1 0 false g v) (bufferTests (contextOf l s g ThreadGet) (one id w)) (fillWith s (baseOf l s false g v) (one id w)) (ours-target l so g v j below pvr s o)
+      ∙ ap (λ (b : ℕ). firstOf (refuse s (one id w)) (bufferTests (contextOf l s g ThreadGet) (one id w)) (fillWith s b (one id w))) (ours-base l so g v j below pvr s o)
 
   -- ---- a value that is too long, and a special ID
   module _ (long : ltb 65528 (length w) ≡ true) where
@@ -97,64 +105,65 @@ module _ (l : Layout) (so : Sound l) (g v j : ℕ) (below : j < l .slots) (s : L
       read-past = ap₂ (λ (t u : Bool). cond t (refuse s (one id w) Length) (cond u (refuse s (one id w) (Element Id placeZero)) (getState l s 0 g v (one id w)))) short common
 
       -- the buffer of one element, judged
-      judged : {A : Type 0} (turn : Fault → A) (good : A) (usage : Usage) (r : Walked) → firstBad (contextOf l s usage) (one id w) ≡ r
-          → firstOf turn (bufferTests l s usage (one id w)) good ≡ cond (isStopped r) (turn (faultOf r)) good
+      judged : {A : Type 0} (turn : Fault → A) (good : A) (usage : Usage) (r : Walked) → firstBad (by usage) (one id w) ≡ r
+          → firstOf turn (bufferTests (contextOf l s g usage) (one id w)) good ≡ cond (isStopped r) (turn (faultOf r)) good
       judged turn good usage r e =
-          ap₂ (λ (t : Bool) (x : Walked). cond t (turn Length) (cond (isStopped x) (turn (faultOf x)) good)) (one-bad-length id w ∙ short) e
+          ap (λ (k : Context). firstOf turn (bufferTests k (one id w)) good) (ours-context l so g v j below pvr s o usage)
+          ∙ ap₂ (λ (t : Bool) (x : Walked). cond t (turn Length) (cond (isStopped x) (turn (faultOf x)) good)) (one-bad-length id w ∙ short) e
 
-      walked : (usage : Usage) (p q r : Bool) → allowed usage id ≡ p → sizeFits (kindOf id) (length w) ≡ q → goodValue (contextOf l s usage) id (one id w) 8 ≡ r
-          → firstBad (contextOf l s usage) (one id w) ≡ cond (not p) (Stopped Id firstPlace) (cond (not q) (Stopped Size firstPlace) (cond (not r) (Stopped Value firstPlace) Done))
+      walked : (usage : Usage) (p q r : Bool) → allowed list usage id ≡ p → sizeFits (kindOf id) (length w) ≡ q → goodValue (by usage) id (one id w) 8 ≡ r
+          → firstBad (by usage) (one id w) ≡ cond (not p) (Stopped Id firstPlace) (cond (not q) (Stopped Size firstPlace) (cond (not r) (Stopped Value firstPlace) Done))
       walked usage p q r a b c =
-          one-element (contextOf l s usage) id w small fits
-          ∙ ap₂ (λ (x y : Bool). cond (not x) (Stopped Id firstPlace) (cond (not y) (Stopped Size firstPlace) (cond (not (goodValue (contextOf l s usage) id (one id w) 8)) (Stopped Value firstPlace) Done))) (allowed-as (contextOf l s usage) id ∙ a) b
+          one-element (by usage) id w small fits
+          ∙ ap₂ (λ (x y : Bool). cond (not x) (Stopped Id firstPlace) (cond (not y) (Stopped Size firstPlace) (cond (not (goodValue (by usage) id (one id w) 8)) (Stopped Value firstPlace) Done))) (allowed-as (by usage) id ∙ a) b
           ∙ ap (λ (z : Bool). cond (not p) (Stopped Id firstPlace) (cond (not q) (Stopped Size firstPlace) (cond (not z) (Stopped Value firstPlace) Done))) c
 
       -- ---- not permitted
-      pub write-id : isInput id ≡ false → writePlain l s g v id w ≡ refuse s [] (Element Id firstPlace)
+      pub write-id : isInput list id ≡ false → writePlain l s g v id w ≡ refuse s [] (Element Id firstPlace)
       write-id h =
           write-past ∙ set-past
-          ∙ judged (refuse s []) (accept 0 (applied at (one id w) (countOf (one id w)) s)) ThreadSet (Stopped Id firstPlace) (walked ThreadSet false (sizeFits (kindOf id) (length w)) (goodValue (contextOf l s ThreadSet) id (one id w) 8) (set-as-input id common ∙ h) refl refl)
+          ∙ judged (refuse s []) (accept 0 (applied at (one id w) (countOf (one id w)) s)) ThreadSet (Stopped Id firstPlace) (walked ThreadSet false (sizeFits (kindOf id) (length w)) (goodValue (by ThreadSet) id (one id w) 8) (set-as-input list id common ∙ h) refl refl)
 
-      pub read-id : isReadable id ≡ false → readPlain l s g v id w ≡ refuse s (one id w) (Element Id firstPlace)
+      pub read-id : isReadable list id ≡ false → readPlain l s g v id w ≡ refuse s (one id w) (Element Id firstPlace)
       read-id h =
           read-past ∙ get-past
-          ∙ judged (refuse s (one id w)) (fillWith s at (one id w)) ThreadGet (Stopped Id firstPlace) (walked ThreadGet false (sizeFits (kindOf id) (length w)) (goodValue (contextOf l s ThreadGet) id (one id w) 8) (get-as-readable id common ∙ h) refl refl)
+          ∙ judged (refuse s (one id w)) (fillWith s at (one id w)) ThreadGet (Stopped Id firstPlace) (walked ThreadGet false (sizeFits (kindOf id) (length w)) (goodValue (by ThreadGet) id (one id w) 8) (get-as-readable list id common ∙ h) refl refl)
 
       -- ---- another size
-      pub write-size : isInput id ≡ true → eqb (length w) (elementOf id .size) ≡ false → writePlain l s g v id w ≡ refuse s [] (Element Size firstPlace)
+      pub write-size : isInput list id ≡ true → eqb (length w) (elementOf id .size) ≡ false → writePlain l s g v id w ≡ refuse s [] (Element Size firstPlace)
       write-size h z =
           write-past ∙ set-past
           ∙ judged (refuse s []) (accept 0 (applied at (one id w) (countOf (one id w)) s)) ThreadSet (Stopped Size firstPlace)
-          (walked ThreadSet true false (goodValue (contextOf l s ThreadSet) id (one id w) 8) (set-as-input id common ∙ h) (named-fits id (input-named id h) (length w) ∙ z) refl)
+          (walked ThreadSet true false (goodValue (by ThreadSet) id (one id w) 8) (set-as-input list id common ∙ h) (named-fits id (input-named list id h) (length w) ∙ z) refl)
 
-      pub read-size : isReadable id ≡ true → eqb (length w) (elementOf id .size) ≡ false → readPlain l s g v id w ≡ refuse s (one id w) (Element Size firstPlace)
+      pub read-size : isReadable list id ≡ true → eqb (length w) (elementOf id .size) ≡ false → readPlain l s g v id w ≡ refuse s (one id w) (Element Size firstPlace)
       read-size h z =
           read-past ∙ get-past
           ∙ judged (refuse s (one id w)) (fillWith s at (one id w)) ThreadGet (Stopped Size firstPlace)
-          (walked ThreadGet true false (goodValue (contextOf l s ThreadGet) id (one id w) 8) (get-as-readable id common ∙ h) (named-fits id (readable-named id h) (length w) ∙ z) refl)
+          (walked ThreadGet true false (goodValue (by ThreadGet) id (one id w) 8) (get-as-readable list id common ∙ h) (named-fits id (readable-named list id h) (length w) ∙ z) refl)
 
       -- ---- good
-      pub write-good : isInput id ≡ true → eqb (length w) (elementOf id .size) ≡ true → writePlain l s g v id w ≡ accept 0 (put s (at + elementOf id .position) w)
+      pub write-good : isInput list id ≡ true → eqb (length w) (elementOf id .size) ≡ true → writePlain l s g v id w ≡ accept 0 (put s (at + elementOf id .position) w)
       write-good h z =
-          let t = input-named id h in
+          let t = input-named list id h in
           write-past ∙ set-past
           ∙ judged (refuse s []) (accept 0 (applied at (one id w) (countOf (one id w)) s)) ThreadSet Done
-          (walked ThreadSet true true true (set-as-input id common ∙ h) (named-fits id t (length w) ∙ z) (input-ruled _ id (one id w) 8 h))
+          (walked ThreadSet true true true (set-as-input list id common ∙ h) (named-fits id t (length w) ∙ z) (input-ruled list _ id (one id w) 8 h))
           ∙ ap (accept 0) (applied-message at ((id, w) ∷ []) (one id w) (wire-one id w small fits) (begins-self (one id w)) s ∙ place-cons at id w [] s ∙ place-nil at _ ∙ thread-numbered id (t .entry) (t .listed) (t .scope) at w s)
 
       -- what a get that is accepted leaves
-      pub get-good : isReadable id ≡ true → eqb (length w) (elementOf id .size) ≡ true → getState l s 0 g v (one id w) ≡ fillWith s at (one id w)
+      pub get-good : isReadable list id ≡ true → eqb (length w) (elementOf id .size) ≡ true → getState l s 0 g v (one id w) ≡ fillWith s at (one id w)
       get-good h z =
           get-past
           ∙ judged (refuse s (one id w)) (fillWith s at (one id w)) ThreadGet Done
-          (walked ThreadGet true true true (get-as-readable id common ∙ h) (named-fits id (readable-named id h) (length w) ∙ z) (value-get (contextOf l s ThreadGet) id (one id w) 8 refl))
+          (walked ThreadGet true true true (get-as-readable list id common ∙ h) (named-fits id (readable-named list id h) (length w) ∙ z) (value-get (by ThreadGet) id (one id w) 8 refl))
 
-      pub read-good : isReadable id ≡ true → eqb (length w) (elementOf id .size) ≡ true → readPlain l s g v id w ≡ fillWith s at (one id w)
+      pub read-good : isReadable list id ≡ true → eqb (length w) (elementOf id .size) ≡ true → readPlain l s g v id w ≡ fillWith s at (one id w)
       read-good h z = read-past ∙ get-good h z
 
   -- the value that it read
-  pub filled-value : isReadable id ≡ true → length w ≡ elementOf id .size → valueIn (filled at s (one id w) (countOf (one id w))) (length w) ≡ valueOf at s id
+  pub filled-value : isReadable list id ≡ true → length w ≡ elementOf id .size → valueIn (filled at s (one id w) (countOf (one id w))) (length w) ≡ valueOf at s id
   filled-value h z =
-      let t = readable-named id h in
-      filled-value-one id (t .entry) (t .listed) (t .scope) at s w (z ∙ element-size id t) (omega (arith, ours-room l so g v j below s o, named-end id t, element-place id t, z))
+      let t = readable-named list id h in
+      filled-value-one id (t .entry) (t .listed) (t .scope) at s w (z ∙ element-size id t) (omega (arith, ours-room l so g v j below pvr s o, named-end id t, element-place id t, z))
       ∙ ap₂ (λ (p n : ℕ). bytesAt s (at + p) n) (sym (element-place id t)) z

@@ -13,32 +13,33 @@ use Rattle.answer.specs.declared.Call.{Call as Name}
 use Rattle.gsb.specs.Message.{message}
 use Rattle.gsb.proofs.RoundTrip.{one-value}
 use Rattle.elements.specs.Table.{numberOf}
+use Rattle.elements.specs.Later.{offerOf}
 use Rattle.exits.specs.Exits.{elementOf}
 use Rattle.store.specs.declared.Layout.{Layout}
 use Rattle.store.specs.Layout.{small}
 use Rattle.admission.specs.Refusals.{Outcome, success, refusal, Passed}
 use Rattle.admission.proofs.Judging.{each-way}
 use Rattle.state.specs.State.{getState}
-use Rattle.run.specs.Run.{cachedTests, cachedGood, ran, runVcpu}
+use Rattle.run.specs.Run.{ran, runVcpu}
 use Rattle.l0.specs.Calls.{GetState, outcome}
 use Rattle.promises.specs.Promised.{NotAccepted, Unchanged}
 use Rattle.promises.proofs.Kept.{refused-unchanged}
 use Rattle.promises.proofs.Told.{refused-fault, fault-refused}
 use Rattle.l1.specs.Marks.{Cache, valid, isInput, isReadable, goodCache}
-use Rattle.l1.specs.Cache.{valueTests, change, writeCache, ReadOutcome, keep, one, valueIn, fetched, readCache, pending, RunOutcome, ranWith, runCache}
-use Rattle.l1.proofs.Running.{passed-judged, run-accepted}
+use Rattle.l1.specs.Cache.{valueTests, change, writeCache, ReadOutcome, keep, one, valueIn, fetched, readCache, pending, RunOutcome, ranWith, cachedTests, runCache}
+use Rattle.l1.proofs.Running.{good-full, passed-judged, run-accepted}
 use Rattle.agreement.specs.Refused.{Unwritten, Unread, Unrun}
 
 -- ---- write
-pub write-unchanged : (c : Cache) (id : ℕ) (v : List ℕ) → Unwritten c (writeCache c id v)
+pub write-unchanged : (pvr : ℕ) (c : Cache) (id : ℕ) (v : List ℕ) → Unwritten c (writeCache pvr c id v)
 unfolding writeCache
-write-unchanged c id v =
+write-unchanged pvr c id v =
     each-way (Unwritten c) (λ f. record { answer = refusal f; cache = c })
-    ((not (goodCache c), CacheBad) ∷ valueTests (isInput id) id v) (record { answer = success 0; cache = change c id v })
+    ((not (goodCache (offerOf pvr) c), CacheBad) ∷ valueTests (isInput (offerOf pvr) id) id v) (record { answer = success 0; cache = change c id v })
     (λ f. record { cache = λ n. refl }) (λ p. record { cache = λ n. absurd (refused-fault Name.CacheWrite (success 0) n refl) })
 
 -- ---- read
-module _ (l : Layout) (s : List ℕ) (guest vcpu : ℕ) (c : Cache) (id : ℕ) (v : List ℕ) where
+module _ (l : Layout) (s : List ℕ) (guest vcpu pvr : ℕ) (c : Cache) (id : ℕ) (v : List ℕ) where
   abbrev served : ReadOutcome
   served = record { answer = success 0; cache = c; value = bytesAt (c .values) (elementOf id .position) (elementOf id .size) }
 
@@ -59,38 +60,38 @@ module _ (l : Layout) (s : List ℕ) (guest vcpu : ℕ) (c : Cache) (id : ℕ) (
   either true = record { cache = λ n. absurd (refused-fault Name.CacheRead (success 0) n refl); value = λ n. absurd (refused-fault Name.CacheRead (success 0) n refl) }
   either false = asked
 
-  pub read-unchanged : Unread c v (readCache l s guest vcpu c id v)
+  pub read-unchanged : Unread c v (readCache l s guest vcpu pvr c id v)
   unfolding readCache
   read-unchanged =
       each-way (Unread c v) (λ f. record { answer = refusal f; cache = c; value = v })
-      ((not (goodCache c), CacheBad) ∷ valueTests (isReadable id) id v) (cond (valid c (numberOf id)) served (fetched c id (length v) got))
+      ((not (goodCache (offerOf pvr) c), CacheBad) ∷ valueTests (isReadable (offerOf pvr) id) id v) (cond (valid c (numberOf id)) served (fetched c id (length v) got))
       (λ f. record { cache = λ n. refl; value = λ n. refl }) (λ p. either (valid c (numberOf id)))
 
 -- ---- run
-module _ (s : List ℕ) (c : Cache) (flags guest vcpu : ℕ) (input output effect : List ℕ) (exit : ℕ) where
+module _ (s : List ℕ) (c : Cache) (flags guest vcpu pvr : ℕ) (input output effect : List ℕ) (exit : ℕ) where
   abbrev laid : List ℕ
   laid = put input 0 (message (pending c))
 
   abbrev tests : List (Bool × Fault)
-  tests = cachedTests small s flags guest vcpu (length (message (pending c))) (length input) (length output) effect exit
+  tests = cachedTests small s c flags guest vcpu (length input) (length output) effect exit
 
   abbrev gone : RunOutcome
   gone = ranWith c laid (runVcpu small s flags guest vcpu laid output effect exit)
 
   -- past its tests a run of the cache is accepted: the input that it wrote is good
-  past : Passed ((not (goodCache c), CacheBad) ∷ tests) → gone .answer .fault ≡ None
+  past : Passed ((not (goodCache (offerOf pvr) c), CacheBad) ∷ tests) → gone .answer .fault ≡ None
   past p =
-      unfold ranWith ran cachedGood in
+      unfold ranWith ran in
       ap (λ (o : Outcome). o .answer .fault)
-      (run-accepted s (c .values) (c .marks) input output effect flags guest vcpu exit (not-false (goodCache c) (p .0)) (passed-judged tests (p .1)))
+      (run-accepted s (c .values) (c .marks) input output effect flags guest vcpu exit (good-full (offerOf pvr) c (not-false (goodCache (offerOf pvr) c) (p .0))) (passed-judged tests (p .1)))
 
-  gone-on : Passed ((not (goodCache c), CacheBad) ∷ tests) → NotAccepted Name.CacheRun (gone .answer) → ⊥
+  gone-on : Passed ((not (goodCache (offerOf pvr) c), CacheBad) ∷ tests) → NotAccepted Name.CacheRun (gone .answer) → ⊥
   gone-on p n = refused-fault Name.CacheRun (gone .answer) n (past p)
 
-  pub run-unchanged : Unrun s c input output (runCache small s c flags guest vcpu input output effect exit)
+  pub run-unchanged : Unrun s c input output (runCache small s c flags guest vcpu pvr input output effect exit)
   unfolding runCache
   run-unchanged =
       each-way (Unrun s c input output) (λ f. record { answer = refusal f; store = s; cache = c; input = input; output = output })
-      ((not (goodCache c), CacheBad) ∷ tests) gone
+      ((not (goodCache (offerOf pvr) c), CacheBad) ∷ tests) gone
       (λ f. record { store = λ n. refl; cache = λ n. refl; input = λ n. refl; output = λ n. refl })
       (λ p. record { store = λ n. absurd (gone-on p n); cache = λ n. absurd (gone-on p n); input = λ n. absurd (gone-on p n); output = λ n. absurd (gone-on p n) })

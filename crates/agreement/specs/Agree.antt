@@ -20,6 +20,7 @@ use Rattle.store.specs.Layout.{slotBytes}
 use Rattle.store.specs.Header.{header, slotOf}
 use Rattle.store.specs.Store.{wellFormed}
 use Rattle.admission.specs.Target.{isAway, baseOf}
+use Rattle.state.specs.State.{pvrOf}
 use Rattle.run.specs.Run.{inputSize, outputSize}
 use Rattle.l0.specs.Calls.{Call, outcome}
 use Rattle.promises.specs.History.{registers}
@@ -72,18 +73,18 @@ pub record Cached : Type 0 where
   pub store : List ℕ
 
 -- Demand 3: "Nobody else writes to the stores or the cache." 01, "The L1 cache": "Each call gets the store and cache that the last one left,
--- and its own buffers."
-unfoldable pub cachedTurn : Layout → ℕ → ℕ → Op → Cached → Turn Cached
-cachedTurn l guest vcpu (Write id v) b =
-    let r = writeCache (b .cache) id v in
+-- and its own buffers." 02, L7: "Each cache call is told the PVR"
+unfoldable pub cachedTurn : Layout → ℕ → ℕ → ℕ → Op → Cached → Turn Cached
+cachedTurn l guest vcpu pvr (Write id v) b =
+    let r = writeCache pvr (b .cache) id v in
     record { shown = seen Name.CacheWrite (r .answer) []; next = record { cache = r .cache; store = b .store }; input = [] }
-cachedTurn l guest vcpu (Read id v) b =
-    let r = readCache l (b .store) guest vcpu (b .cache) id v in
+cachedTurn l guest vcpu pvr (Read id v) b =
+    let r = readCache l (b .store) guest vcpu pvr (b .cache) id v in
     record { shown = seen Name.CacheRead (r .answer) (r .value); next = record { cache = r .cache; store = b .store }; input = [] }
-cachedTurn l guest vcpu (Run flags input output effect exit) b =
-    let r = runCache l (b .store) (b .cache) flags guest vcpu input output effect exit in
+cachedTurn l guest vcpu pvr (Run flags input output effect exit) b =
+    let r = runCache l (b .store) (b .cache) flags guest vcpu pvr input output effect exit in
     record { shown = seen Name.CacheRun (r .answer) (r .output); next = record { cache = r .cache; store = r .store }; input = r .input }
-cachedTurn l guest vcpu (Other c) b =
+cachedTurn l guest vcpu pvr (Other c) b =
     let o = outcome l (b .store) c in
     record { shown = record { answer = registers l (b .store) c; buffer = o .buffer }; next = record { cache = b .cache; store = o .store }; input = [] }
 
@@ -159,11 +160,11 @@ abbrev pub registeredInput : Layout → ℕ → ℕ → List ℕ → ℕ
 registeredInput l guest vcpu s = inputSize s (baseOf l s false guest vcpu)
 
 -- 01, "The L1 cache": "Demand 3 is one claim about the whole list and not one for each call."
-abbrev pub Agree : Layout → ℕ → ℕ → List Op → List (ℕ × List ℕ) → Cached → List ℕ → Type 0
-Agree l guest vcpu [] ws b s = Unit {0}
-Agree l guest vcpu (o ∷ os) ws b s =
-    Same (registeredInput l guest vcpu (b .store)) o ws (cachedTurn l guest vcpu o b) (plainTurn l guest vcpu o s)
-    × Agree l guest vcpu os (since o (plainTurn l guest vcpu o s .shown .answer) ws) (cachedTurn l guest vcpu o b .next) (plainTurn l guest vcpu o s .next)
+abbrev pub Agree : Layout → ℕ → ℕ → ℕ → List Op → List (ℕ × List ℕ) → Cached → List ℕ → Type 0
+Agree l guest vcpu pvr [] ws b s = Unit {0}
+Agree l guest vcpu pvr (o ∷ os) ws b s =
+    Same (registeredInput l guest vcpu (b .store)) o ws (cachedTurn l guest vcpu pvr o b) (plainTurn l guest vcpu o s)
+    × Agree l guest vcpu pvr os (since o (plainTurn l guest vcpu o s .shown .answer) ws) (cachedTurn l guest vcpu pvr o b .next) (plainTurn l guest vcpu o s .next)
 
 -- ---- what it rests on
 -- Demand 3: "whatever calls on other guests stand between them"; an ID is a number of 16 bits
@@ -176,12 +177,14 @@ Allowed guest (Other c ∷ os) = Elsewhere guest c × Allowed guest os
 
 -- Demand 3: "Take a well-formed store, a live vCPU in it with both run buffers registered, the input with at least 2,424 bytes, and an empty
 -- cache of it kept by an L1."
-pub record Start (l : Layout) (guest vcpu : ℕ) (s : List ℕ) (c : Cache) : Type 0 where
+pub record Start (l : Layout) (guest vcpu pvr : ℕ) (s : List ℕ) (c : Cache) : Type 0 where
   pub formed : wellFormed l s ≡ true
   -- 01, "The L1 cache": "Live: a used slot word names the vCPU."
   pub live : slotOf l (header l s) guest vcpu < l .slots
   -- 02, L1: the vCPU is "live and not taken"
   pub here : isAway l s guest vcpu ≡ false
+  -- 02, L7: "demand 3 holds where each is told the guest's PVR": the one that the guest has at the start
+  pub told : pvrOf l s guest ≡ pvr
   pub input : goodInput (registeredInput l guest vcpu s) ≡ true
   pub wide : 2424 ≤ registeredInput l guest vcpu s
   pub output : goodOutput (outputSize s (baseOf l s false guest vcpu)) ≡ true

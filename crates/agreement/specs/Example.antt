@@ -3,7 +3,7 @@
 use Prim.Native.Nat.{ℕ, _-_, _^_}
 use mathlib.Core.List.{List, [], _∷_, _++_}
 use Rattle.octets.specs.Bytes.{put, digits, zeros}
-use Rattle.store.specs.Layout.{small, slotAt}
+use Rattle.store.specs.Layout.{small, guestAt, slotAt}
 use Rattle.store.specs.Store.{fresh}
 use Rattle.l1.specs.Marks.{Cache}
 
@@ -11,6 +11,10 @@ use Rattle.l1.specs.Marks.{Cache}
 -- slot 0
 unfoldable pub exampleStore : List ℕ
 exampleStore = put (put (fresh small) 8 (0x80 ∷ 0 ∷ 0x88 ∷ 0x00 ∷ [])) (slotAt small 0) (digits 8 0 ++ (digits 8 2424 ++ (digits 8 0 ++ digits 8 124)))
+
+-- 02, L7: and its guest's PVR is POWER9's
+unfoldable pub power9Store : List ℕ
+power9Store = put exampleStore (guestAt small 1) (digits 4 0x0F000005)
 
 unfoldable pub exampleCache : Cache
 exampleCache = record { values = zeros 1820; marks = zeros 6 }

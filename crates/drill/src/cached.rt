@@ -21,25 +21,32 @@ pub struct Seen {
     pub inputs: u64,
 }
 
-fn write(values: &mut [u8], marks: &mut [u64], x: u64, digest: u64) -> u64 {
+fn write(values: &mut [u8], marks: &mut [u64], pvr: u32, x: u64, digest: u64) -> u64 {
     let e = an_element(x);
     let b = e.bytes;
     let end = e.end;
-    let told = l1::write(values, marks, e.id, &b[8..end]);
+    let told = l1::write(values, marks, pvr, e.id, &b[8..end]);
     mix_answer(digest, Call::CacheWrite, told)
 }
 
-fn read(store: &[u8], values: &mut [u8], marks: &mut [u64], x: u64, digest: u64) -> u64 {
+fn read(store: &[u8], values: &mut [u8], marks: &mut [u64], pvr: u32, x: u64, digest: u64) -> u64 {
     let e = an_element(x);
     let mut b = e.bytes;
     let end = e.end;
     let value = &mut b[8..end];
-    let told = l1::read(store, 1, 0, values, marks, e.id, value);
+    let told = l1::read(store, 1, 0, pvr, values, marks, e.id, value);
     mix_bytes(mix_answer(digest, Call::CacheRead, told), value)
 }
 
 // The effect is a buffer of one element.
-fn run(store: &mut [u8], values: &mut [u8], marks: &mut [u64], x: u64, seen: Seen) -> Seen {
+fn run(
+    store: &mut [u8],
+    values: &mut [u8],
+    marks: &mut [u64],
+    pvr: u32,
+    x: u64,
+    seen: Seen,
+) -> Seen {
     let e = an_element(next(x));
     let b = e.bytes;
     let end = e.end;
@@ -50,11 +57,12 @@ fn run(store: &mut [u8], values: &mut [u8], marks: &mut [u64], x: u64, seen: See
         Call::CacheRun,
         l1::run(
             store,
-            values,
-            marks,
             0,
             1,
             0,
+            pvr,
+            values,
+            marks,
             &mut input,
             &mut output,
             &b[0..end],
@@ -67,12 +75,19 @@ fn run(store: &mut [u8], values: &mut [u8], marks: &mut [u64], x: u64, seen: See
     }
 }
 
-fn turn(store: &mut [u8], values: &mut [u8], marks: &mut [u64], x: u64, seen: Seen) -> Seen {
+fn turn(
+    store: &mut [u8],
+    values: &mut [u8],
+    marks: &mut [u64],
+    pvr: u32,
+    x: u64,
+    seen: Seen,
+) -> Seen {
     let all = match an_operation(x) {
-        Operation::Write => write(values, marks, x, seen.all),
-        Operation::Read => read(store, values, marks, x, seen.all),
+        Operation::Write => write(values, marks, pvr, x, seen.all),
+        Operation::Read => read(store, values, marks, pvr, x, seen.all),
         Operation::Other => other(store, x, seen.all),
-        Operation::Run => return run(store, values, marks, x, seen),
+        Operation::Run => return run(store, values, marks, pvr, x, seen),
     };
     Seen {
         all,
@@ -80,22 +95,22 @@ fn turn(store: &mut [u8], values: &mut [u8], marks: &mut [u64], x: u64, seen: Se
     }
 }
 
-fn turns(store: &mut [u8], values: &mut [u8], marks: &mut [u64]) -> Seen {
+fn turns(store: &mut [u8], values: &mut [u8], marks: &mut [u64], pvr: u32) -> Seen {
     let mut seen = Seen { all: 1, inputs: 1 };
     let mut x = SEED;
     let mut i = 0;
     while i < OPERATIONS {
         x = next(x);
-        seen = turn(store, values, marks, x, seen);
+        seen = turn(store, values, marks, pvr, x, seen);
         i += 1;
     }
     seen
 }
 
-pub fn drill() -> Seen {
+pub fn drill(pvr: u32) -> Seen {
     let mut store = [0u8; 29580];
     let mut values = [0u8; 1820];
     let mut marks = [0u64; 6];
-    start(&mut store);
-    turns(&mut store, &mut values, &mut marks)
+    start(&mut store, pvr);
+    turns(&mut store, &mut values, &mut marks, pvr)
 }

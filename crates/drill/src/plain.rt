@@ -156,8 +156,8 @@ fn turns(store: &mut [u8]) -> u64 {
     digest
 }
 
-pub fn drill() -> u64 {
+pub fn drill(pvr: u32) -> u64 {
     let mut store = [0u8; 29580];
-    start(&mut store);
+    start(&mut store, pvr);
     turns(&mut store)
 }

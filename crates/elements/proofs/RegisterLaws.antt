@@ -122,6 +122,15 @@ sized id = go (leb 0x1000 id && leb id 0x1053) (leb 0x3000 id && leb id 0x303F) 
     go false false true p q r = word (found-low _ _ id true r refl) (found-high _ _ id true r refl) (its-size _ id (register-word id true r refl))
     go false false false p q r = none (its-size _ id (register-none id false false false p refl q refl r refl))
 
+pub vector-low : (id : ℕ) → registerOf id .size ≡ 16 → 0x3000 ≤ id
+vector-low id e = go (sized id)
+  where
+    go : Sized id (registerOf id .size) → 0x3000 ≤ id
+    go (none z) = absurd (omega (arith, e, z))
+    go (double a b z) = absurd (omega (arith, e, z))
+    go (vector a b z) = a
+    go (word a b z) = absurd (omega (arith, e, z))
+
 -- a range of IDs that has a size of its own is a range of headers
 module _ (size low high header : ℕ) (is : (id : ℕ) → low ≤ id → id ≤ high → registerOf id .size ≡ size)
     (only : (id : ℕ) → registerOf id .size ≡ size → (low ≤ id) × (id ≤ high)) (some : 0 < size) (short : high < 2 ^ 16) where

@@ -3,9 +3,11 @@ use Prim.Native.Nat.{ℕ, zero, suc, _+_, _-_}
 use mathlib.Core.Path.{_≡_}
 use mathlib.Core.Bool.{Bool, true, false, not, _&&_, _||_, cond}
 use mathlib.Core.List.{List, [], _∷_}
-use lib.Dec.{leb}
+use lib.Dec.{leb, eqb}
 use Rattle.elements.specs.declared.Scope.the-variants.{Thread}
 use Rattle.elements.specs.declared.Entry.{Entry}
+use Rattle.elements.specs.declared.Offer.{Offer}
+use Rattle.elements.specs.declared.Offer.the-variants.{Full, Power9}
 use Rattle.elements.specs.Table.{sameScope, kindOf, threadElement}
 use Rattle.elements.specs.Right.{allFrom, onEntry}
 
@@ -27,6 +29,15 @@ isIn (r ∷ rs) id = (leb (r .0) id && leb id (r .1)) || isIn rs id
 
 unfoldable pub isLater : ℕ → Bool
 isLater id = isIn later id
+
+-- "With any other PVR the list of 01 holds; both lists are kept": which list a guest has, by its logical PVR
+unfoldable pub offerOf : ℕ → Offer
+offerOf pvr = cond (eqb pvr 0x0F000005) Power9 Full
+
+-- whether a list has an ID that the table lists
+unfoldable pub offers : Offer → ℕ → Bool
+offers Full id = true
+offers Power9 id = not (isLater id)
 
 -- ---- what is promised of it: the theorem is `later-right`
 -- how many IDs the ranges have, and a test of each

@@ -1,8 +1,9 @@
 // The elements of a guest state buffer: the one constant table, and the types in which it is told what an ID is.
-// `kinds` and `numbers` scan it, `registers` has the short way for nearly all IDs; the crate `rules` says what a call may do with an
-// element.
+// `kinds` and `numbers` scan it, `registers` has the short way for nearly all IDs, `lists` has what POWER9 lacks of it; the crate `rules`
+// says what a call may do with an element.
 mod cells;
 mod kinds;
+mod lists;
 mod numbers;
 mod registers;
 mod rows;
@@ -10,6 +11,9 @@ mod rows;
 pub use cells::listed_cell;
 pub use cells::register_cell;
 pub use kinds::kind_of;
+pub use lists::is_later;
+pub use lists::is_offered;
+pub use lists::offer_of;
 pub use numbers::number_of;
 pub use numbers::thread_element;
 pub use registers::is_register;
@@ -53,6 +57,12 @@ pub enum Kind {
     Unlisted,
     Nop,
     Listed(Entry),
+}
+
+// The list that a guest is offered: all of the table, or what POWER9 has of it.
+pub enum Offer {
+    Full,
+    Power9,
 }
 
 // A thread element by its number: its ID, its size and where its value lies in a slot's values.

@@ -5,6 +5,7 @@ use mathlib.Core.Bool.{cond}
 use mathlib.Core.List.{List}
 use lib.ListN.{length}
 use Rattle.answer.specs.declared.Place.{Place}
+use Rattle.elements.specs.declared.Offer.{Offer}
 use Rattle.rules.specs.declared.Usage.{Usage}
 use Rattle.rules.specs.declared.Context.{Context}
 use Rattle.rules.specs.Private.{ofThread}
@@ -16,15 +17,19 @@ use Rattle.gsb.specs.Walk.{judged, walk}
 abbrev pub reachOf : Usage → List ℕ → ℕ
 reachOf usage b = cond (ofThread usage) (length b) 0
 
--- a verdict that may be the element's, in each use of which `room` is the reach; a fault says nothing
-abbrev pub QuickVerdict : Verdict → ℕ → List ℕ → ℕ → Type 0
-QuickVerdict (Good next) room b at = (next ≤ length b) × ((k : Context) → room ≡ reachOf (k .usage) b → Good next ≡ judged k b at)
-QuickVerdict (Faulty bad) room b at = Unit {0}
+-- the contexts with this reach and this list
+abbrev pub Reaches : ℕ → Offer → List ℕ → Context → Type 0
+Reaches room offer b k = (room ≡ reachOf (k .usage) b) × (k .offer ≡ offer)
 
--- from one place to another of the same walk, in each such use
-pub record Skipped (b : List ℕ) (count room : ℕ) (from to : Place) : Type 0 where
+-- a verdict that may be the element's, in each such context; a fault says nothing
+abbrev pub QuickVerdict : Verdict → ℕ → Offer → List ℕ → ℕ → Type 0
+QuickVerdict (Good next) room offer b at = (next ≤ length b) × ((k : Context) → Reaches room offer b k → Good next ≡ judged k b at)
+QuickVerdict (Faulty bad) room offer b at = Unit {0}
+
+-- from one place to another of the same walk, in each such context
+pub record Skipped (b : List ℕ) (count room : ℕ) (offer : Offer) (from to : Place) : Type 0 where
   pub onward : from .index ≤ to .index
   pub upto : to .index ≤ count
   pub inside : to .offset ≤ length b
-  pub same : (k : Context) → room ≡ reachOf (k .usage) b
+  pub same : (k : Context) → Reaches room offer b k
       → walk (judged k b) (count - from .index) (from .index) (from .offset) ≡ walk (judged k b) (count - to .index) (to .index) (to .offset)

@@ -4,6 +4,8 @@ use super::Walked;
 use super::judge;
 use answer::Bad;
 use answer::Place;
+use elements::Offer;
+use elements::is_offered;
 use elements::is_register;
 use octets::get_turned;
 use octets::get32;
@@ -38,10 +40,10 @@ fn reach(b: &[u8], usage: Usage) -> usize
 }
 
 // The registers but PPR, which every use of a vCPU permits and no value rule names, and an empty NOP: good by one read if they lie
-// well within `room`, which is `reach`. A fault is no verdict: it leaves them to `judge`.
-fn quick(b: &[u8], at: usize, room: usize) -> Verdict
+// well within `room`, which is `reach`, and on the guest's list, which has all vectors. A fault is no verdict: it leaves them to `judge`.
+fn quick(b: &[u8], at: usize, room: usize, offer: Offer) -> Verdict
     requires { ⌜ (at ≤ length (now b)) × (room ≤ length (now b)) ⌝ }
-    ensures { λ r. ⌜ QuickVerdict r room (now (b .entry)) at ⌝ }
+    ensures { λ r. ⌜ QuickVerdict r room offer (now (b .entry)) at ⌝ }
 {
     if room < at + 12 {
         return Verdict::Faulty(Bad::Size);
@@ -49,6 +51,9 @@ fn quick(b: &[u8], at: usize, room: usize) -> Verdict
     let key = get_turned(b, at) as usize;
     if is_register(8, key) {
         if key == 0x8_103A {
+            return Verdict::Faulty(Bad::Size);
+        }
+        if !is_offered(offer, (key % 65536) as u16) {
             return Verdict::Faulty(Bad::Size);
         }
         return Verdict::Good(at + 12);
@@ -59,21 +64,21 @@ fn quick(b: &[u8], at: usize, room: usize) -> Verdict
     if is_register(16, key) & (at + 20 <= room) {
         return Verdict::Good(at + 20);
     }
-    if is_register(4, key) {
+    if is_register(4, key) & is_offered(offer, (key % 65536) as u16) {
         return Verdict::Good(at + 8);
     }
     Verdict::Faulty(Bad::Size)
 }
 
 // Past the elements from a place on that `quick` finds good: a loop of their own is short.
-fn skip(b: &[u8], count: usize, from: Place, room: usize) -> Place
+fn skip(b: &[u8], count: usize, from: Place, room: usize, offer: Offer) -> Place
     requires { ⌜ (from .index ≤ count) × (from .offset ≤ length (now b)) × (room ≤ length (now b)) ⌝ }
-    ensures { λ r. ⌜ Skipped (now (b .entry)) count room from r ⌝ }
+    ensures { λ r. ⌜ Skipped (now (b .entry)) count room offer from r ⌝ }
 {
     let mut at = from.offset;
     let mut i = from.index;
     while i < count {
-        let Verdict::Good(next) = quick(b, at, room) else {
+        let Verdict::Good(next) = quick(b, at, room, offer) else {
             return Place {
                 index: i,
                 offset: at,
@@ -99,6 +104,7 @@ pub fn first_bad(b: &[u8], k: Context) -> Walked
         return Walked::Done;
     }
     let usage = k.usage;
+    let offer = k.offer;
     let room = reach(b, usage);
     let mut at = 4;
     let mut i = 0;
@@ -111,6 +117,7 @@ pub fn first_bad(b: &[u8], k: Context) -> Walked
                 offset: at,
             },
             room,
+            offer,
         );
         let index = here.index;
         let offset = here.offset;

@@ -15,6 +15,10 @@ use Rattle.elements.specs.declared.Scope.the-variants.{Thread}
 use Rattle.rules.specs.declared.Usage.{Usage}
 use Rattle.rules.specs.declared.Usage.the-variants.{ThreadGet, ThreadSet, RunInput}
 use Rattle.rules.specs.declared.Context.{Context}
+use Rattle.elements.specs.declared.Offer.{Offer}
+use Rattle.elements.specs.declared.Offer.the-variants.{Full}
+use Rattle.elements.specs.Later.{offers}
+use Rattle.rules.proofs.Lists.{permits-by}
 use Rattle.elements.specs.declared.Entry.{Entry}
 use Rattle.elements.specs.declared.Element.{Element}
 use Rattle.elements.specs.declared.Kind.{Kind}
@@ -113,8 +117,8 @@ pub value-other : (base : ℕ) (s : List ℕ) (a b : ℕ) (v : List ℕ) → Nam
 value-other base s a b v t u n e = read-other s (base + elementOf a .position) v (base + elementOf b .position) (elementOf b .size) (places-apart base a b v t u n e)
 
 -- ---- what the operations of the cache permit
-pub permitted-named : (usage : Usage) (id : ℕ) → id ≢ 0 → ((x : Entry) → allows usage id x ≡ true → x .scope ≡ Thread) → allowed usage id ≡ true → Named id
-permitted-named usage id n sc e = go (permits-cases (record { usage = usage; capabilities = 0 }) id (kindOf id) e)
+pub permitted-named : (o : Offer) (usage : Usage) (id : ℕ) → id ≢ 0 → ((x : Entry) → allows usage id x ≡ true → x .scope ≡ Thread) → allowed o usage id ≡ true → Named id
+permitted-named o usage id n sc e = go (permits-cases (record { usage = usage; capabilities = 0; offer = o }) id (kindOf id) e)
   where
     go : (kindOf id ≡ Nop) ⊎ ((x : Entry) × (kindOf id ≡ Listed x) × (allows usage id x ≡ true)) → Named id
     go (inl q) = absurd (n (nop-zero id q))
@@ -132,19 +136,19 @@ and-false : (a : Bool) → (a && false) ≡ false
 and-false true = refl
 and-false false = refl
 
--- the use decides alone
-pub allowed-as : (k : Context) (id : ℕ) → permits k id (kindOf id) ≡ allowed (k .usage) id
+-- the use and the list decide alone
+pub allowed-as : (k : Context) (id : ℕ) → permits k id (kindOf id) ≡ allowed (k .offer) (k .usage) id
 unfolding permits
 allowed-as k id = go (kindOf id)
   where
-    go : (kind : Kind) → permits k id kind ≡ permits (record { usage = k .usage; capabilities = 0 }) id kind
+    go : (kind : Kind) → permits k id kind ≡ permits (record { usage = k .usage; capabilities = 0; offer = k .offer }) id kind
     go Unlisted = refl
     go Nop = refl
     go (Listed x) = refl
 
-module _ (id : ℕ) where
+module _ (o : Offer) (id : ℕ) where
   -- of an ID that is not special, what a thread set takes and what a run input takes are the same
-  pub set-as-input : isSpecial id ≡ false → allowed ThreadSet id ≡ isInput id
+  pub set-as-input : isSpecial id ≡ false → allowed o ThreadSet id ≡ isInput o id
   unfolding isInput permits allows
   set-as-input n = by-kind (kindOf id) refl
     where
@@ -152,82 +156,90 @@ module _ (id : ℕ) where
       parts = neither (eqb id 0) (between 0x0C00 0x0C01 id) n
 
       by-kind : (kind : Kind) → kindOf id ≡ kind
-          → permits (record { usage = ThreadSet; capabilities = 0 }) id kind ≡ (not (eqb id 0) && permits (record { usage = RunInput; capabilities = 0 }) id kind)
+          → permits (record { usage = ThreadSet; capabilities = 0; offer = o }) id kind ≡ (not (eqb id 0) && permits (record { usage = RunInput; capabilities = 0; offer = o }) id kind)
       by-kind Unlisted e = sym (ap (λ (t : Bool). not t && false) (parts .0))
       by-kind Nop e = sym (ap (λ (t : Bool). not t && true) (parts .0))
       by-kind (Listed x) e =
-          sym (ap₂ (λ (t u : Bool). not t && ((sameScope Thread (x .scope) && writable (x .access)) && not u)) (parts .0) (parts .1) ∙ and-true (sameScope Thread (x .scope) && writable (x .access)))
+          sym (ap₂ (λ (t u : Bool). not t && (((sameScope Thread (x .scope) && writable (x .access)) && not u) && offers o id)) (parts .0) (parts .1)
+          ∙ ap (λ (t : Bool). t && offers o id) (and-true (sameScope Thread (x .scope) && writable (x .access))))
 
-  pub special-out : isSpecial id ≡ true → isInput id ≡ false
+  pub special-out : isSpecial id ≡ true → isInput o id ≡ false
   unfolding isInput permits allows
   special-out h = go (eqb id 0) refl h
     where
-      by-kind : between 0x0C00 0x0C01 id ≡ true → id ≢ 0 → (kind : Kind) → kindOf id ≡ kind → permits (record { usage = RunInput; capabilities = 0 }) id kind ≡ false
+      by-kind : between 0x0C00 0x0C01 id ≡ true → id ≢ 0 → (kind : Kind) → kindOf id ≡ kind → permits (record { usage = RunInput; capabilities = 0; offer = o }) id kind ≡ false
       by-kind b n Unlisted e = refl
       by-kind b n Nop e = absurd (n (nop-zero id e))
-      by-kind b n (Listed x) e = ap (λ (t : Bool). (sameScope Thread (x .scope) && writable (x .access)) && not t) b ∙ and-false (sameScope Thread (x .scope) && writable (x .access))
+      by-kind b n (Listed x) e = ap (λ (t : Bool). ((sameScope Thread (x .scope) && writable (x .access)) && not t) && offers o id) b ∙ ap (λ (t : Bool). t && offers o id) (and-false (sameScope Thread (x .scope) && writable (x .access)))
 
-      go : (t : Bool) → eqb id 0 ≡ t → (t || between 0x0C00 0x0C01 id) ≡ true → (not t && permits (record { usage = RunInput; capabilities = 0 }) id (kindOf id)) ≡ false
+      go : (t : Bool) → eqb id 0 ≡ t → (t || between 0x0C00 0x0C01 id) ≡ true → (not t && permits (record { usage = RunInput; capabilities = 0; offer = o }) id (kindOf id)) ≡ false
       go true e q = refl
       go false e q = by-kind q (eqb-false id 0 e) (kindOf id) refl
 
-  input-parts : isInput id ≡ true → (eqb id 0 ≡ false) × (allowed RunInput id ≡ true)
+  input-parts : isInput o id ≡ true → (eqb id 0 ≡ false) × (allowed o RunInput id ≡ true)
   unfolding isInput
-  input-parts e = let p = both (not (eqb id 0)) (allowed RunInput id) e in (not-true (eqb id 0) (p .0), p .1)
+  input-parts e = let p = both (not (eqb id 0)) (allowed o RunInput id) e in (not-true (eqb id 0) (p .0), p .1)
 
-  pub input-allowed : isInput id ≡ true → allowed RunInput id ≡ true
+  pub input-allowed : isInput o id ≡ true → allowed o RunInput id ≡ true
   input-allowed e = input-parts e .1
 
-  pub input-named : isInput id ≡ true → Named id
+  pub input-named : isInput o id ≡ true → Named id
   input-named e =
       let p = input-parts e in
-      permitted-named RunInput id (eqb-false id 0 (p .0)) (λ x a. allows-scope RunInput id x a) (p .1)
+      permitted-named o RunInput id (eqb-false id 0 (p .0)) (λ x a. allows-scope RunInput id x a) (p .1)
 
-  pub input-common : isInput id ≡ true → isSpecial id ≡ false
+  pub input-common : isInput o id ≡ true → isSpecial id ≡ false
   input-common e = go (isSpecial id) refl
     where
       go : (t : Bool) → isSpecial id ≡ t → isSpecial id ≡ false
       go true q = absurd (no-bool (sym (special-out q) ∙ e))
       go false q = q
 
-  readable-parts : isReadable id ≡ true → (isSpecial id ≡ false) × (allowed ThreadGet id ≡ true)
+  readable-parts : isReadable o id ≡ true → (isSpecial id ≡ false) × (allowed o ThreadGet id ≡ true)
   unfolding isReadable
-  readable-parts e = let p = both (not (isSpecial id)) (allowed ThreadGet id) e in (not-true (isSpecial id) (p .0), p .1)
+  readable-parts e = let p = both (not (isSpecial id)) (allowed o ThreadGet id) e in (not-true (isSpecial id) (p .0), p .1)
 
-  pub readable-common : isReadable id ≡ true → isSpecial id ≡ false
+  pub readable-common : isReadable o id ≡ true → isSpecial id ≡ false
   readable-common e = readable-parts e .0
 
-  pub readable-named : isReadable id ≡ true → Named id
+  pub readable-named : isReadable o id ≡ true → Named id
   readable-named e =
       let p = readable-parts e in
       let z = neither (eqb id 0) (between 0x0C00 0x0C01 id) (p .0) .0 in
-      permitted-named ThreadGet id (eqb-false id 0 z) (λ x a. allows-scope ThreadGet id x a) (p .1)
+      permitted-named o ThreadGet id (eqb-false id 0 z) (λ x a. allows-scope ThreadGet id x a) (p .1)
 
-  pub get-as-readable : isSpecial id ≡ false → allowed ThreadGet id ≡ isReadable id
+  pub get-as-readable : isSpecial id ≡ false → allowed o ThreadGet id ≡ isReadable o id
   unfolding isReadable
-  get-as-readable n = sym (ap (λ (t : Bool). not t && allowed ThreadGet id) n)
+  get-as-readable n = sym (ap (λ (t : Bool). not t && allowed o ThreadGet id) n)
 
 -- ---- computed over the 170: what a run input takes lies behind the two registrations, and all of it needs 2,424 bytes
 abbrev behind : ℕ → Bool
-behind e = not (isInput (threadElement e .id)) || leb 32 (threadElement e .position)
+behind e = not (isInput Full (threadElement e .id)) || leb 32 (threadElement e .position)
 
 all-behind : every behind 170 0 ≡ true
-unfolding every isInput permits allows kindOf find table sourceOf position below threadElement numbered
+unfolding every isInput permits allows offers kindOf find table sourceOf position below threadElement numbered
 all-behind = refl
 
-pub input-behind : (id : ℕ) → isInput id ≡ true → 32 ≤ elementOf id .position
-input-behind id h =
-    let t = input-named id h in
+-- what a list takes, 01's takes
+pub input-full : (o : Offer) (id : ℕ) → isInput o id ≡ true → isInput Full id ≡ true
+unfolding isInput
+input-full o id h =
+    let p = input-parts o id h in
+    simp (p .0, both (allowed Full RunInput id) (offers o id) (sym (permits-by RunInput 0 0 o id) ∙ p .1) .0)
+
+pub input-behind : (o : Offer) (id : ℕ) → isInput o id ≡ true → 32 ≤ elementOf id .position
+input-behind o id h =
+    let t = input-named o id h in
     let e = numberOf id in
     let w : behind e ≡ true = every-at behind 170 0 all-behind e (omega arith) (omega (arith, named-number id t)) in
-    let q : isInput (threadElement e .id) ≡ true = ap isInput (named-back id t) ∙ h in
+    let q : isInput Full (threadElement e .id) ≡ true = ap (isInput Full) (named-back id t) ∙ input-full o id h in
     leb-true _ _ (ap (λ (b : Bool). not b || leb 32 (threadElement e .position)) (sym q) ∙ w)
 
 -- the bytes that the elements below n need at most
 unfoldable pub weight : ℕ → ℕ
 weight zero = 0
-weight (suc n) = weight n + cond (isInput (threadElement n .id)) (4 + threadElement n .size) 0
+weight (suc n) = weight n + cond (isInput Full (threadElement n .id)) (4 + threadElement n .size) 0
 
 pub all-weight : weight 170 ≡ 2420
-unfolding weight isInput permits allows kindOf find table sourceOf position below threadElement numbered
+unfolding weight isInput permits allows offers kindOf find table sourceOf position below threadElement numbered
 all-weight = refl

@@ -11,3 +11,4 @@ pub mod Masks
 pub mod Words
 mod Clearing
 pub mod Sizes
+pub mod Lacking

@@ -3,7 +3,7 @@
 use mathlib.Core.Path.{_≡_, refl, sym, ap, ap₂, _∙_}
 use mathlib.Core.Bool.{Bool, true, false, not, _&&_, _||_, cond}
 use mathlib.Core.List.{List, [], _∷_, _++_, append-nil}
-use Prim.Native.Nat.{ℕ, zero, suc, _+_, _-_, _^_, min, _≤_, _<_}
+use Prim.Native.Nat.{ℕ, zero, suc, _+_, _-_, _*_, _^_, min, _≤_, _<_}
 use native.Mathlib.Decide.{decLt}
 use native.Mathlib.Omega.{arith}
 use lib.Dec.{eqb, ltb}
@@ -11,6 +11,7 @@ use lib.ListN.{length, length-append}
 use borrow.Author.Tests.{le-ltb, not-true}
 use Rattle.octets.specs.Bytes.{bytesAt, put, digits}
 use Rattle.octets.proofs.Bytes.{length-bytesAt, length-put}
+use Rattle.elements.specs.declared.Offer.{Offer}
 use Rattle.elements.specs.declared.Element.{Element}
 use Rattle.elements.specs.Table.{threadElement}
 use Rattle.gsb.specs.Message.{elementBytes, elementsBytes, message}
@@ -53,6 +54,15 @@ length-chosen p (suc n) = length-append (chosen p n) (cond (p n) (threadElement 
     go true = refl
     go false = refl
 
+pub chosen-few : (p : ℕ → Bool) (n : ℕ) → length (chosen p n) ≤ n
+unfolding chosen
+chosen-few p zero = omega arith
+chosen-few p (suc n) = omega (arith, length-append (chosen p n) (cond (p n) (threadElement n .id ∷ []) []), chosen-few p n, one (p n))
+  where
+    one : (t : Bool) → length (cond t (threadElement n .id ∷ []) []) ≤ 1
+    one true = omega arith
+    one false = omega arith
+
 weigh-one : (e : ℕ) → e < 170 → weigh (threadElement e .id ∷ []) ≡ 4 + threadElement e .size
 unfolding weigh
 weigh-one e h = omega (arith, ap (λ (x : Element). x .size) (number-back e h))
@@ -66,6 +76,15 @@ weigh-more p n h = go (p n) refl
     go : (b : Bool) → p n ≡ b → weigh (chosen p (suc n)) ≡ weigh (chosen p n) + cond b (4 + threadElement n .size) 0
     go true e = omega (arith, weigh-next p n h e)
     go false e = omega (arith, ap weigh (chosen-same p n e))
+
+pub weigh-few : (p : ℕ → Bool) (n : ℕ) → n ≤ 170 → weigh (chosen p n) ≤ 28 * n
+unfolding weigh chosen
+weigh-few p zero h = omega arith
+weigh-few p (suc n) h = omega (arith, weigh-more p n (omega arith), weigh-few p n (omega arith), one (p n))
+  where
+    one : (b : Bool) → cond b (4 + threadElement n .size) 0 ≤ 28
+    one true = omega (arith, number-small n (omega arith))
+    one false = omega arith
 
 weigh-past : (p : ℕ → Bool) (n : ℕ) → weigh (chosen p n) ≤ weigh (chosen p (suc n))
 unfolding chosen
@@ -153,13 +172,13 @@ chosen-none m x k =
 
 -- the turn: one more
 module _ (m : List ℕ) (i : ℕ) (y : Mark) (low : 192 ≤ i) (high : i < 362) (e : i ≡ first (isMarked m) (384 - i) i) where
-  marked-here : isChanged m (i - 192) ≡ true
+  pub marked-here : isChanged m (i - 192) ≡ true
   marked-here = let q : 192 + (i - 192) ≡ i = omega arith in ap (isMarked m) q ∙ first-has (isMarked m) (384 - i) i i e (omega arith)
 
-  here : reached i ≡ i - 192
+  pub here : reached i ≡ i - 192
   here = omega arith
 
-  chosen-turn : MarkFrom m (i + 1) y → chosen (isChanged m) (reached (y .at)) ≡ chosen (isChanged m) (suc (i - 192))
+  pub chosen-turn : MarkFrom m (i + 1) y → chosen (isChanged m) (reached (y .at)) ≡ chosen (isChanged m) (suc (i - 192))
   chosen-turn k =
       let q : reached (y .at) ≡ suc (i - 192) + (reached (y .at) - suc (i - 192)) = omega (arith, k .above) in
       ap (chosen (isChanged m)) q ∙ chosen-skip (isChanged m) (suc (i - 192)) (reached (y .at) - suc (i - 192)) (λ x a b. first-clear (isMarked m) (384 - (i + 1)) (i + 1) (y .at) (k .at) (192 + x) (omega arith) (omega arith))
@@ -199,7 +218,7 @@ module _ (m : List ℕ) (x : Mark) (k : MarkFrom m 192 x) where
   put-start vs b = elements-none b 4 ∙ ap (λ (ids : List ℕ). put b 4 (elementsBytes (valued 0 vs ids))) (sym (chosen-none m x k))
 
 module _ (m : List ℕ) (i : ℕ) (h : 362 ≤ i) where
-  all : reached i ≡ 170
+  pub all : reached i ≡ 170
   all = omega arith
 
   pub put-end : (vs b v : List ℕ) → v ≡ put b 4 (elementsBytes (valued 0 vs (chosen (isChanged m) (reached i)))) → v ≡ put b 4 (elementsBytes (valued 0 vs (chosen (isChanged m) 170)))
@@ -220,28 +239,28 @@ module _ (i : ℕ) (x : Element) (t : x ≡ threadElement (i - 192)) (h : i < 36
   element-small = omega (arith, small, ap (λ (y : Element). y .size) t)
 
 -- ---- of a good cache: how many there are, and their bytes
-module _ (vs ms : List ℕ) (g : goodCache (record { values = vs; marks = ms }) ≡ true) where
+module _ (o : Offer) (vs ms : List ℕ) (g : goodCache o (record { values = vs; marks = ms }) ≡ true) where
   abbrev cache : Cache
   cache = record { values = vs; marks = ms }
 
   pub cache-values : length vs ≡ 1820
-  cache-values = values-long vs ms true (sym g) refl
+  cache-values = values-long o vs ms true (sym g) refl
 
   pub cache-marks : length ms ≡ 6
-  cache-marks = marks-long vs ms true (sym g) refl
+  cache-marks = marks-long o vs ms true (sym g) refl
 
-  pub cache-good : (e : ℕ) → e < 192 → markGood cache e ≡ true
+  pub cache-good : (e : ℕ) → e < 192 → markGood o cache e ≡ true
   unfolding goodCache
   cache-good e h =
-      let p = both (eqb (length vs) slotBytes) (eqb (length ms) 6 && every (markGood cache) 192 0) g in
-      every-at (markGood cache) 192 0 (both (eqb (length ms) 6) (every (markGood cache) 192 0) (p .1) .1) e (omega arith) (omega arith)
+      let p = both (eqb (length vs) slotBytes) (eqb (length ms) 6 && every (markGood o cache) 192 0) g in
+      every-at (markGood o cache) 192 0 (both (eqb (length ms) 6) (every (markGood o cache) 192 0) (p .1) .1) e (omega arith) (omega arith)
 
   none-past : (e : ℕ) → 170 ≤ e → e < 192 → isChanged ms e ≡ false
   unfolding markGood
   none-past e a b =
       let q : ltb e 170 ≡ false = le-ltb e 170 a in
       let p : not (valid cache e) && not (changed cache e) ≡ true =
-      sym (ap (λ (t : Bool). cond t (not (changed cache e) || (valid cache e && isInput (threadElement e .id))) (not (valid cache e) && not (changed cache e))) q) ∙ cache-good e b in
+      sym (ap (λ (t : Bool). cond t (not (changed cache e) || (valid cache e && isInput o (threadElement e .id))) (not (valid cache e) && not (changed cache e))) q) ∙ cache-good e b in
       not-true _ (both (not (valid cache e)) (not (changed cache e)) p .1)
 
   pub pending-count : length (pending cache) ≡ tally (isChanged ms) 192

@@ -1,5 +1,5 @@
 -- A read, in the form of the code's needs. Assumes nothing.
-use mathlib.Core.Path.{_≡_, refl, sym, ap, ap₂, _∙_, subst}
+use mathlib.Core.Path.{_≡_, sym, ap, ap₂, _∙_, subst}
 use mathlib.Core.Bool.{Bool, true, false, not, cond}
 use mathlib.Core.List.{List}
 use Prim.Native.Nat.{ℕ, _+_, _≤_, _<_}
@@ -18,8 +18,11 @@ use Rattle.answer.specs.declared.Registers.{Registers}
 use Rattle.answer.specs.Answer.{told, accepted}
 use Rattle.answer.specs.Refusals.{firstOf}
 use Rattle.rules.specs.declared.Usage.the-variants.{ThreadGet}
+use Rattle.elements.specs.declared.Offer.{Offer}
+use Rattle.elements.specs.declared.Offer.the-variants.{Full}
 use Rattle.elements.specs.declared.Cell.{Cell}
 use Rattle.elements.specs.Table.{kindOf}
+use Rattle.elements.specs.Later.{offerOf}
 use Rattle.elements.specs.Cells.{cellOf}
 use Rattle.rules.specs.Rules.{permits}
 use Rattle.exits.specs.Exits.{elementOf}
@@ -33,18 +36,19 @@ use Rattle.admission.proofs.Judging.{all-refused, all-admitted}
 use Rattle.l1.specs.Marks.{Cache, isMarked, allowed, isReadable, isSpecial}
 use Rattle.l1.specs.Cache.{ReadOutcome, keep, fetched, readCache}
 use Rattle.l1.specs.Private.{cellIf, Sized, Within, keptAt, elementTests, elementGood, readValue}
-use Rattle.l1.proofs.Values.{readable-thread, thread-within, tests-same, kept-as}
+use Rattle.l1.proofs.Cells.{readable-named}
+use Rattle.l1.proofs.Values.{named-within, tests-same, kept-as}
 
 pub accepted-as : (c : Call) (a : Answer) (r : Registers) → r ≡ told c (a .fault) (a .value) → accepted r ≡ accepted (told c (a .fault) (a .value))
 accepted-as c a r e = ap (λ (x : Registers). accepted x) e
 
 -- ---- an ID that can be read
-module _ (id : ℕ) (e : isReadable id ≡ true) where
-  parts : (not (isSpecial id) ≡ true) × (allowed ThreadGet id ≡ true)
+module _ (id : ℕ) (e : isReadable Full id ≡ true) where
+  parts : (not (isSpecial id) ≡ true) × (allowed Full ThreadGet id ≡ true)
   unfolding isReadable
-  parts = both (not (isSpecial id)) (allowed ThreadGet id) e
+  parts = both (not (isSpecial id)) (allowed Full ThreadGet id) e
 
-  pub readable-permits : permits (record { usage = ThreadGet; capabilities = 0 }) id (kindOf id) ≡ true
+  pub readable-permits : permits (record { usage = ThreadGet; capabilities = 0; offer = Full }) id (kindOf id) ≡ true
   readable-permits = parts .1
 
   pub readable-some : 0 < id
@@ -56,7 +60,7 @@ module _ (id : ℕ) (e : isReadable id ≡ true) where
 
   module _ (x : Cell) (c : x ≡ cellOf id) where
     pub read-within : Within x
-    read-within = subst Within (sym c) (thread-within id (readable-thread id e))
+    read-within = subst Within (sym c) (named-within id (readable-named Full id e))
 
     pub read-size : (v : List ℕ) → length v ≡ x .size → length v ≡ elementOf id .size
     unfolding cellOf
@@ -107,7 +111,7 @@ module _ (s : List ℕ) (guest vcpu : ℕ) (vs ms : List ℕ) (id : ℕ) (x : Ce
       → _≡_ {A = ReadOutcome} (record { answer = r; cache = record { values = us; marks = ns }; value = u }) (readValue s guest vcpu (record { values = vs; marks = ms }) id v)
   value-fetched r us ns u n w = w ∙ sym (value-as false (not-true y n))
 
-  pub value-valid : (r : Answer) (u : List ℕ) → not y ≡ false → length v ≡ x .size → isReadable id ≡ true → length vs ≡ 1820 → u ≡ put v 0 (bytesAt vs (x .position) (x .size)) → r ≡ success 0
+  pub value-valid : (r : Answer) (u : List ℕ) → not y ≡ false → length v ≡ x .size → isReadable Full id ≡ true → length vs ≡ 1820 → u ≡ put v 0 (bytesAt vs (x .position) (x .size)) → r ≡ success 0
       → _≡_ {A = ReadOutcome} (record { answer = r; cache = record { values = vs; marks = ms }; value = u }) (readValue s guest vcpu (record { values = vs; marks = ms }) id v)
   unfolding cellOf
   value-valid r u n l o j d i =
@@ -118,27 +122,27 @@ module _ (s : List ℕ) (guest vcpu : ℕ) (vs ms : List ℕ) (id : ℕ) (x : Ce
       ap₂ (λ (f : Answer) (g : List ℕ). record { answer = f; cache = record { values = vs; marks = ms }; value = g }) i t ∙ sym (value-as true (not-false y n))
 
 -- ---- the read
-module _ (s : List ℕ) (guest vcpu : ℕ) (vs ms : List ℕ) (id : ℕ) (v : List ℕ) (x : Cell) (e : x ≡ cellIf (isReadable id) id) (a : Admission) (q : a ≡ elementGood (record { values = vs; marks = ms }) (x .size) v) (r : Answer) where
+module _ (s : List ℕ) (guest vcpu pvr : ℕ) (vs ms : List ℕ) (id : ℕ) (v : List ℕ) (o : Offer) (eo : o ≡ offerOf pvr) (x : Cell) (e : x ≡ cellIf (isReadable o id) id) (a : Admission) (q : a ≡ elementGood o (record { values = vs; marks = ms }) (x .size) v) (r : Answer) where
   abbrev before : Cache
   before = record { values = vs; marks = ms }
 
   abbrev refused : Fault → ReadOutcome
   refused f = record { answer = refusal f; cache = before; value = v }
 
-  judged : judgement (elementTests before (isReadable id) id v) ≡ a
-  judged = tests-same before (isReadable id) id x v e (readable-thread id) ∙ sym q
+  judged : judgement (elementTests o before (isReadable o id) id v) ≡ a
+  judged = tests-same o before (isReadable o id) id x v e (readable-named o id) ∙ sym q
 
-  read-as : readCache small s guest vcpu before id v ≡ firstOf refused (elementTests before (isReadable id) id v) (readValue s guest vcpu before id v)
+  read-as : readCache small s guest vcpu pvr before id v ≡ firstOf refused (elementTests o before (isReadable o id) id v) (readValue s guest vcpu before id v)
   unfolding readCache readValue
-  read-as = refl
+  read-as = ap (λ (p : Offer). firstOf refused (elementTests p before (isReadable p id) id v) (readValue s guest vcpu before id v)) (sym eo)
 
   pub read-bad : (f : Fault) → a ≡ Refused f → r ≡ refusal f
-      → _≡_ {A = ReadOutcome} (record { answer = r; cache = record { values = vs; marks = ms }; value = v }) (readCache small s guest vcpu (record { values = vs; marks = ms }) id v)
+      → _≡_ {A = ReadOutcome} (record { answer = r; cache = record { values = vs; marks = ms }; value = v }) (readCache small s guest vcpu pvr (record { values = vs; marks = ms }) id v)
   read-bad f h i =
       ap (λ (y : Answer). record { answer = y; cache = before; value = v }) i
-      ∙ sym (read-as ∙ all-refused refused (readValue s guest vcpu before id v) (elementTests before (isReadable id) id v) f (judged ∙ h))
+      ∙ sym (read-as ∙ all-refused refused (readValue s guest vcpu before id v) (elementTests o before (isReadable o id) id v) f (judged ∙ h))
 
   pub read-good : (us ns u : List ℕ) → a ≡ Admitted
       → _≡_ {A = ReadOutcome} (record { answer = r; cache = record { values = us; marks = ns }; value = u }) (readValue s guest vcpu (record { values = vs; marks = ms }) id v)
-      → _≡_ {A = ReadOutcome} (record { answer = r; cache = record { values = us; marks = ns }; value = u }) (readCache small s guest vcpu (record { values = vs; marks = ms }) id v)
-  read-good us ns u h w = w ∙ sym (read-as ∙ all-admitted refused (readValue s guest vcpu before id v) (elementTests before (isReadable id) id v) (judged ∙ h))
+      → _≡_ {A = ReadOutcome} (record { answer = r; cache = record { values = us; marks = ns }; value = u }) (readCache small s guest vcpu pvr (record { values = vs; marks = ms }) id v)
+  read-good us ns u h w = w ∙ sym (read-as ∙ all-admitted refused (readValue s guest vcpu before id v) (elementTests o before (isReadable o id) id v) (judged ∙ h))

@@ -10,6 +10,7 @@ use borrow.Author.Tests.{eqb-true, ltb-true}
 use Rattle.elements.specs.declared.Scope.{Scope}
 use Rattle.elements.specs.declared.Source.{Source}
 use Rattle.elements.specs.declared.Kind.{Kind}
+use Rattle.elements.specs.Cells.{cellOf}
 use Rattle.elements.specs.Table.{table, below, position, kindOf, numberOf, numbered, threadElement}
 use Rattle.elements.proofs.Table.{listed-stored, thread-stored}
 use Rattle.gsb.specs.Walk.{countOf, idAt, sizeAt, offsetAt}
@@ -17,10 +18,13 @@ use Rattle.gsb.specs.Message.{message, Begins, nthId, nthValue, Wire}
 use Rattle.gsb.proofs.Messages.{length-message}
 use Rattle.gsb.proofs.RoundTrip.{wire-nil, wire-cons, listed-fits, message-count, message-id, message-size, message-inside}
 use Rattle.store.proofs.Search.{both}
-use Rattle.transfer.specs.Transfer.{Fits, Moves, Ready, AllReady}
+use Rattle.octets.specs.Bytes.{put}
+use Rattle.transfer.specs.Transfer.{putFrom, putAs}
+use Rattle.l1.specs.Private.{Within, Keeps, AllKeeps}
+use Rattle.l1.proofs.Values.{named-within}
 use Rattle.exits.specs.Exits.{exits, rowOf, returned, elementOf, valued}
 use Rattle.exits.proofs.Written.{length-valued}
-use Rattle.l1.proofs.Cells.{Named, element-size, element-place, named-end, number-named, valueOf, length-value}
+use Rattle.l1.proofs.Cells.{Named, element-size, element-place, number-named, valueOf, length-value}
 
 -- ---- computed over the table of exits: every ID in it names a thread element
 abbrev idNamed : ℕ → Bool
@@ -79,17 +83,16 @@ named-at [] n i h = absurd (omega arith)
 named-at (id ∷ ids) n zero h = n .0
 named-at (id ∷ ids) n (suc i) h = named-at ids (n .1) i (omega arith)
 
--- a thread element's value lies within the cache's values
-named-moves : (a id : ℕ) → a ≡ id → Named id → (size : ℕ) → size ≡ elementOf id .size → Moves (kindOf a) 0 size 1820
-named-moves a id e t size z =
-    subst (λ (k : Kind). Moves k 0 size 1820) (sym (ap kindOf e ∙ t .listed))
-    (z ∙ element-size id t, subst (λ (x : Source). Fits x 0 size 1820) (sym (listed-stored id (t .entry) (t .listed) (thread-stored id (t .entry) (t .listed) (t .scope)))) within)
+-- a thread element's value goes to its cell
+named-puts : (a id : ℕ) → a ≡ id → Named id → (v s : List ℕ) → putAs (kindOf a) 0 v s ≡ put s (cellOf a .position) v
+unfolding putAs putFrom cellOf
+named-puts a id e t v s =
+    ap (λ (k : Kind). putAs k 0 v s) (ap kindOf e ∙ t .listed)
+    ∙ ap (λ (x : Source). putFrom x 0 v s) (listed-stored id (t .entry) (t .listed) (thread-stored id (t .entry) (t .listed) (t .scope)))
+    ∙ ap (λ (n : ℕ). put s n v) (omega (arith, place))
   where
-    same : position (t .entry .scope) id ≡ elementOf id .position
-    same = ap (λ (c : Scope). position c id) (t .scope) ∙ sym (element-place id t)
-
-    within : 0 + position (t .entry .scope) id + size ≤ 1820
-    within = omega (arith, same, z, named-end id t)
+    place : position (t .entry .scope) id ≡ cellOf a .position
+    place = ap (λ (c : Scope). position c id) (t .scope) ∙ sym (element-place id t) ∙ ap (λ (n : ℕ). elementOf n .position) (sym e)
 
 module _ (base : ℕ) (s : List ℕ) (room : base + 1820 ≤ length s) where
   pub valued-wire : (ids : List ℕ) → AllNamed ids → length ids ≤ 170 → Wire (valued base s ids)
@@ -100,22 +103,25 @@ module _ (base : ℕ) (s : List ℕ) (room : base + 1820 ≤ length s) where
       let k = listed-fits id (t .entry) (valueOf base s id) (t .listed) (length-value base s room id t ∙ element-size id t) in
       wire-cons id (valueOf base s id) (valued base s ids) (k .0) (k .1) (omega (arith, length-valued base s ids)) (valued-wire ids (n .1) (omega arith))
 
-  -- each can be moved into the cache
-  pub valued-ready : (ids : List ℕ) → AllNamed ids → length ids ≤ 170 → (b : List ℕ) → Begins b (message (valued base s ids)) → AllReady 0 b 1820
-  valued-ready ids n few b k = record { long = omega (arith, k .within, length-message (valued base s ids)); each = each }
+  -- each can be kept in the cache
+  pub valued-keeps : (ids : List ℕ) → AllNamed ids → length ids ≤ 170 → (b : List ℕ) → Begins b (message (valued base s ids)) → AllKeeps b
+  unfolding cellOf
+  valued-keeps ids n few b k = record { long = omega (arith, k .within, length-message (valued base s ids)); each = each }
     where
       wire : Wire (valued base s ids)
       wire = valued-wire ids n few
 
-      each : (i : ℕ) → i < countOf b → Ready 0 b (offsetAt b i) 1820
+      each : (i : ℕ) → i < countOf b → Keeps b (offsetAt b i)
       each i h =
           let es = valued base s ids in
           let c : i < length es = omega (arith, message-count es b wire k) in
           let l : i < length ids = omega (arith, length-valued base s ids) in
           let t = named-at ids n i l in
-          let z = message-size es b wire k i c ∙ ap length (valued-value base s ids i l) ∙ length-value base s room (getD ids i 0) t in
+          let q : idAt b (offsetAt b i) ≡ getD ids i 0 = message-id es b wire k i c ∙ valued-id base s ids i l in
+          let z : sizeAt b (offsetAt b i) ≡ elementOf (getD ids i 0) .size = message-size es b wire k i c ∙ ap length (valued-value base s ids i l) ∙ length-value base s room (getD ids i 0) t in
           record {
-            header = omega (arith, message-inside es b wire k i c);
             inside = message-inside es b wire k i c;
-            moves = named-moves (idAt b (offsetAt b i)) (getD ids i 0) (message-id es b wire k i c ∙ valued-id base s ids i l) t (sizeAt b (offsetAt b i)) z;
+            cell = subst (λ (x : ℕ). Within (cellOf x)) (sym q) (named-within (getD ids i 0) t);
+            size = z ∙ ap (λ (x : ℕ). elementOf x .size) (sym q);
+            puts = named-puts (idAt b (offsetAt b i)) (getD ids i 0) q t;
           }

@@ -6,7 +6,7 @@ use mathlib.Core.List.{List, [], _∷_}
 use Prim.Native.Nat.{ℕ, zero, suc, _+_, _*_, _^_, _≤_, _<_}
 use native.Mathlib.Omega.{arith}
 use lib.Dec.{eqb}
-use lib.Bits.{bitAnd}
+use lib.Bits.{bitAnd, and-zero-l}
 use lib.Count.{ones}
 use lib.ListN.{getD}
 use borrow.Author.Tests.{lt-ltb, le-ltb}
@@ -55,6 +55,14 @@ module _ (m : List ℕ) (k : ℕ) (h : k < 3) (f : getD m (3 + k) 0 < 2 ^ 64) wh
   word-bytes =
       let s = sizes-listed k h in
       ap₂ (λ (a b : ℕ). a + b) (ap₂ (λ (a b : ℕ). 8 * a + 12 * b) (counted 4 (getD fours k 0) (s .0)) (counted 8 (getD eights k 0) (s .1))) (ap (λ (a : ℕ). 20 * a) (counted 16 (getD sixteens k 0) (s .2)))
+
+pub word-none : (m : List ℕ) (k : ℕ) → k < 3 → getD m (3 + k) 0 ≡ 0 → 0 ≡ wordBytes (isChanged m) k
+unfolding ones
+word-none m k h e =
+    sym (ap (λ (w : ℕ). 8 * ones (bitAnd w (getD fours k 0)) + 12 * ones (bitAnd w (getD eights k 0)) + 20 * ones (bitAnd w (getD sixteens k 0))) e
+    ∙ ap₂ (λ (a b : ℕ). 8 * ones a + 12 * ones b + 20 * ones (bitAnd 0 (getD sixteens k 0))) (and-zero-l (getD fours k 0)) (and-zero-l (getD eights k 0))
+    ∙ ap (λ (a : ℕ). 20 * ones a) (and-zero-l (getD sixteens k 0)))
+    ∙ word-bytes m k h (omega arith)
 
 -- ---- the elements
 weight-one : (b : Bool) (n : ℕ) → Sized n → cond b (4 + n) 0 ≡ 8 * cond (b && eqb n 4) 1 0 + 12 * cond (b && eqb n 8) 1 0 + 20 * cond (b && eqb n 16) 1 0

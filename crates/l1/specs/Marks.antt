@@ -5,6 +5,7 @@ use mathlib.Core.List.{List}
 use lib.Bits.{bitOr}
 use lib.Dec.{eqb, ltb}
 use lib.ListN.{length, getD, set}
+use Rattle.elements.specs.declared.Offer.{Offer}
 use Rattle.rules.specs.declared.Usage.{Usage}
 use Rattle.rules.specs.declared.Usage.the-variants.{ThreadGet, RunInput}
 use Rattle.elements.specs.Table.{kindOf, threadElement}
@@ -30,24 +31,25 @@ valid c e = isMarked (c .marks) e
 abbrev pub changed : Cache → ℕ → Bool
 changed c e = isMarked (c .marks) (192 + e)
 
--- what a use permits depends on no capability
-abbrev pub allowed : Usage → ℕ → Bool
-allowed usage id = permits (record { usage = usage; capabilities = 0 }) id (kindOf id)
+-- what a use permits depends on no capability. 02, L7: "Each cache call is told the PVR and goes by that list"
+abbrev pub allowed : Offer → Usage → ℕ → Bool
+allowed o usage id = permits (record { usage = usage; capabilities = 0; offer = o }) id (kindOf id)
 
 -- "6 unless permitted in a run input (NOP too is 6)"
-unfoldable pub isInput : ℕ → Bool
-isInput id = not (eqb id 0x0000) && allowed RunInput id
+unfoldable pub isInput : Offer → ℕ → Bool
+isInput o id = not (eqb id 0x0000) && allowed o RunInput id
 
 -- "6 unless readable in a thread get and not 0x0C00, 0x0C01 or the NOP"
 abbrev pub isSpecial : ℕ → Bool
 isSpecial id = eqb id 0x0000 || between 0x0C00 0x0C01 id
 
-unfoldable pub isReadable : ℕ → Bool
-isReadable id = not (isSpecial id) && allowed ThreadGet id
+unfoldable pub isReadable : Offer → ℕ → Bool
+isReadable o id = not (isSpecial id) && allowed o ThreadGet id
 
--- "Well formed: right lengths, no mark past 169, every changed element valid and permitted in a run input. Empty: all marks 0."
-unfoldable pub markGood : Cache → ℕ → Bool
-markGood c e = cond (ltb e 170) (not (changed c e) || (valid c e && isInput (threadElement e .id))) (not (valid c e) && not (changed c e))
+-- "Well formed: right lengths, no mark past 169, every changed element valid and permitted in a run input. Empty: all marks 0." 02, L7: "goes by
+-- that list, in 15 too"
+unfoldable pub markGood : Offer → Cache → ℕ → Bool
+markGood o c e = cond (ltb e 170) (not (changed c e) || (valid c e && isInput o (threadElement e .id))) (not (valid c e) && not (changed c e))
 
-unfoldable pub goodCache : Cache → Bool
-goodCache c = eqb (length (c .values)) slotBytes && (eqb (length (c .marks)) 6 && every (markGood c) 192 0)
+unfoldable pub goodCache : Offer → Cache → Bool
+goodCache o c = eqb (length (c .values)) slotBytes && (eqb (length (c .marks)) 6 && every (markGood o c) 192 0)

@@ -11,12 +11,14 @@ use answer::refusal;
 use answer::registers_of;
 use answer::success;
 use elements::Cell;
+use elements::offer_of;
 use state::get_element;
 ghost use mathlib.Core.Path.{_≡_};
 ghost use mathlib.Core.Bool.{true};
 ghost use lib.ListN.{length};
 ghost use Rattle.answer.specs.Answer.{told, accepted};
 ghost use Rattle.store.specs.Layout.{small};
+ghost use Rattle.elements.specs.declared.Offer.the-variants.{Full};
 ghost use Rattle.elements.specs.Cells.{cellOf};
 ghost use Rattle.state.specs.State.{gotElement};
 ghost use Rattle.l1.specs.Marks.{isReadable};
@@ -40,7 +42,7 @@ fn fetch(
     x: Cell,
     value: &mut [u8],
 ) -> Answer
-    requires { ⌜ (isReadable id ≡ true) × (length (now values) ≡ 1820) × (length (now marks) ≡ 6) × (length (now value) ≡ x .size) × (x ≡ cellOf id) ⌝ }
+    requires { ⌜ (isReadable Full id ≡ true) × (length (now values) ≡ 1820) × (length (now marks) ≡ 6) × (length (now value) ≡ x .size) × (x ≡ cellOf id) ⌝ }
     ensures { λ r. ⌜ _≡_ {A = ReadOutcome} (record { answer = r; cache = record { values = now (values .exit); marks = now (marks .exit) }; value = now (value .exit) }) (fetched (record { values = now (values .entry); marks = now (marks .entry) }) id (length (now (value .entry))) (gotElement (now (store .entry)) guest vcpu id (now (value .entry)))) ⌝ }
 {
     let answer = get_element(store, guest, vcpu, id, value);
@@ -62,7 +64,7 @@ fn read_value(
     x: Cell,
     value: &mut [u8],
 ) -> Answer
-    requires { ⌜ (isReadable id ≡ true) × (length (now values) ≡ 1820) × (length (now marks) ≡ 6) × (length (now value) ≡ x .size) × (x ≡ cellOf id) ⌝ }
+    requires { ⌜ (isReadable Full id ≡ true) × (length (now values) ≡ 1820) × (length (now marks) ≡ 6) × (length (now value) ≡ x .size) × (x ≡ cellOf id) ⌝ }
     ensures { λ r. ⌜ _≡_ {A = ReadOutcome} (record { answer = r; cache = record { values = now (values .exit); marks = now (marks .exit) }; value = now (value .exit) }) (readValue (now (store .entry)) guest vcpu (record { values = now (values .entry); marks = now (marks .entry) }) id (now (value .entry))) ⌝ }
 {
     if !is_marked(marks, x.number) {
@@ -76,15 +78,17 @@ pub fn read(
     store: &[u8],
     guest: u64,
     vcpu: u64,
+    pvr: u32,
     values: &mut [u8],
     marks: &mut [u64],
     id: u16,
     value: &mut [u8],
 ) -> Answer
-    ensures { λ r. ⌜ _≡_ {A = ReadOutcome} (record { answer = r; cache = record { values = now (values .exit); marks = now (marks .exit) }; value = now (value .exit) }) (readCache small (now (store .entry)) guest vcpu (record { values = now (values .entry); marks = now (marks .entry) }) id (now (value .entry))) ⌝ }
+    ensures { λ r. ⌜ _≡_ {A = ReadOutcome} (record { answer = r; cache = record { values = now (values .exit); marks = now (marks .exit) }; value = now (value .exit) }) (readCache small (now (store .entry)) guest vcpu pvr (record { values = now (values .entry); marks = now (marks .entry) }) id (now (value .entry))) ⌝ }
 {
-    let x = readable_cell(id);
-    match judge_element(values, marks, x.size, value) {
+    let offer = offer_of(pvr);
+    let x = readable_cell(offer, id);
+    match judge_element(offer, values, marks, x.size, value) {
         Admission::Refused(fault) => return refusal(fault),
         Admission::Admitted => {}
     }

@@ -1,6 +1,6 @@
 // The L1 cache: a vCPU's values kept by the L1, with marks of which are valid and which changed since the last run.
-// `named` looks up the element that a write or a read names, `value` holds what both do with it, `caches` when a cache is well formed,
-// `flush` the cache's run.
+// `named` looks up the element that a write or a read names, `value` holds what both do with it, `caches` tells whether a cache is
+// well formed, `flush` is the cache's run.
 mod cache_read;
 mod cache_write;
 mod caches;

@@ -6,6 +6,7 @@ use answer::Bad;
 use answer::Fault;
 use answer::Place;
 use elements::Cell;
+use elements::Offer;
 use octets::copy;
 ghost use mathlib.Core.Path.{_≡_};
 ghost use Prim.Native.Nat.{_+_, _≤_};
@@ -15,10 +16,16 @@ ghost use Rattle.l1.specs.Marks.{Cache};
 ghost use Rattle.l1.specs.Private.{elementGood, Sized, Within, keptAt, changedAt};
 
 // 15, 5, 6 and 7; `size` is that of the element, 0 where the operation does not take the ID.
-pub fn judge_element(values: &[u8], marks: &[u64], size: usize, value: &[u8]) -> Admission
-    ensures { λ r. ⌜ r ≡ elementGood (record { values = now (values .entry); marks = now (marks .entry) }) size (now (value .entry)) ⌝ }
+pub fn judge_element(
+    offer: Offer,
+    values: &[u8],
+    marks: &[u64],
+    size: usize,
+    value: &[u8],
+) -> Admission
+    ensures { λ r. ⌜ r ≡ elementGood offer (record { values = now (values .entry); marks = now (marks .entry) }) size (now (value .entry)) ⌝ }
 {
-    if !good_cache(values, marks) {
+    if !good_cache(offer, values, marks) {
         return Admission::Refused(Fault::Cache);
     }
     if 65528 < value.len() {

@@ -1,9 +1,9 @@
--- THEOREMS `apart-slot`, `apart-mark`, `apart-values`, `apart-write`: a call on another guest neither sees nor changes the values of a
--- given vCPU, which stays in its slot with its mark. Assumes nothing.
+-- THEOREMS `apart-slot`, `apart-mark`, `apart-values`, `apart-guest`, `apart-write`: a call on another guest neither sees nor changes the
+-- values of a given vCPU, which stays in its slot with its mark, nor those of its guest. Assumes nothing.
 use mathlib.Core.Path.{_≡_, refl, sym, ap, ap₂, _∙_, subst}
-use mathlib.Core.Logic.{_≢_}
+use mathlib.Core.Logic.{_≢_, _⊎_, inl, inr}
 use mathlib.Core.Bool.{Bool, true, false, not, _&&_, cond}
-use mathlib.Core.List.{List, [], _∷_}
+use mathlib.Core.List.{List, [], _∷_, _++_}
 use Prim.Native.Nat.{ℕ, zero, suc, _+_, _*_, _%_, _^_, _≤_, _<_}
 use native.Mathlib.Omega.{arith}
 use lib.Dec.{eqb, leb, ltb}
@@ -12,7 +12,7 @@ use borrow.Author.Tests.{eq-eqb, ne-eqb, lt-ltb, leb-true, eqb-true, ltb-true, l
 use Rattle.octets.specs.Bytes.{bytesAt, put, be, zeros, Clear, left, right}
 use Rattle.octets.specs.Bits.{bit, bits}
 use Rattle.octets.proofs.Bytes.{clear-sym, clear-part, length-bytesAt, length-zeros, put-comm, put-same, read-back, read-other}
-use Rattle.octets.proofs.Numbers.{be-other}
+use Rattle.octets.proofs.Numbers.{be-other, be-part}
 use Rattle.answer.specs.declared.Answer.{Answer}
 use Rattle.answer.specs.declared.Fault.{Fault}
 use Rattle.answer.specs.Refusals.{firstOf}
@@ -22,10 +22,12 @@ use Rattle.elements.specs.declared.Source.the-variants.{Fixed, Stored}
 use Rattle.elements.specs.declared.Entry.{Entry}
 use Rattle.elements.specs.declared.Kind.{Kind}
 use Rattle.elements.specs.declared.Kind.the-variants.{Unlisted, Nop, Listed}
+use Rattle.rules.specs.declared.Usage.{Usage}
 use Rattle.rules.specs.declared.Usage.the-variants.{RunInput, Effect as InEffect}
 use Rattle.rules.specs.declared.Context.{Context}
 use Rattle.elements.specs.Table.{table, below, position, kindOf, numberOf}
 use Rattle.rules.specs.Rules.{permits, sizeFits, scopeFor}
+use Rattle.elements.specs.Later.{offerOf}
 use Rattle.elements.specs.Right.{bytesOf}
 use Rattle.elements.proofs.Table.{position-end, source-stored}
 use Rattle.rules.proofs.Rules.{size-listed, permits-scope}
@@ -50,19 +52,21 @@ use Rattle.transfer.specs.Transfer.{valueAt, putFrom, putAs, applied, readFrom,
 use Rattle.exits.specs.Exits.{exits, rowOf, returned, elementOf, valued, outputOf}
 use Rattle.exits.proofs.Written.{allFit, rowFits, rowsFit, exits-fit, fits-row}
 use Rattle.admission.specs.Refusals.{Outcome, success, accept, refuse, decide, hasBit0, handsOver, Passed}
-use Rattle.admission.specs.Target.{baseOf}
+use Rattle.admission.specs.Target.{targetTests, baseOf}
+use Rattle.admission.proofs.Judging.{same-after}
 use Rattle.handover.specs.Form.{form, valuesOf, stateAt, taken}
 use Rattle.state.specs.HandOver.{takeVcpu, giveVcpu}
-use Rattle.state.specs.State.{contextOf, getUse, getElements, getState, setUse, setElements, setState}
+use Rattle.state.specs.State.{pvrOf, contextOf, badElement, bufferTests, supportedBits, getUse, getElements, getState, setUse, setElements, setState}
+use Rattle.state.proofs.Buffers.{pvr-place}
 use Rattle.state.proofs.HandOvers.{get-ways, set-ways}
-use Rattle.run.specs.Run.{inputSize, outputSize, inputOf, runTests, ranStore, ran, runVcpu}
+use Rattle.run.specs.Run.{inputSize, outputSize, inputOf, exitTests, runTargetTests, contentTests, runTests, ranStore, ran, runVcpu}
 use Rattle.guests.specs.Guests.{createGuest, createVcpu, deleteGuest}
 use Rattle.l0.specs.Calls.{getCapabilities, offsetOf, roundedUp, guestClock, Call, GetCapabilities, SetCapabilities, CreateGuest, CreateVcpu, GetState, SetState, RunVcpu, DeleteGuest, GuestClock, outcome}
 use Rattle.promises.specs.Apart.{Elsewhere}
 use Rattle.promises.proofs.HandedOver.{Placed, slot-placed, word-used, handed, handed-word, handed-live, handed-mark-else, handed-write, take-slotted, give-slotted, given-length}
 use Rattle.promises.proofs.Kept.{decided, applied-header, base-values, well-formed-kept}
 use Rattle.promises.proofs.Runs.{input-walked, effect-walked}
-use Rattle.promises.proofs.States.{walked, get-room, set-room, slots-apart}
+use Rattle.promises.proofs.States.{walked, get-room, set-room, slots-apart, guests-apart}
 
 -- what a call leaves, with w written into the store from q on
 abbrev written : ℕ → List ℕ → Outcome → Outcome
@@ -82,6 +86,14 @@ decided-write s q w b tests seen o done e g = ap (λ (xs : List (Bool × Fault))
             → cond t (refuse (put s q w) b (x .1)) (firstOf (refuse (put s q w) b) xs done) ≡ written q w (cond t (refuse s b (x .1)) (firstOf (refuse s b) xs o))
         at true y ih = refl
         at false y ih = ih (λ p. h (y, p))
+
+-- the same where tests behind others see it only if one of those holds
+decided-after : (s : List ℕ) (q : ℕ) (w b : List ℕ) (tests begun rest seen : List (Bool × Fault)) (o done : Outcome) → begun ≡ tests → (Passed tests → seen ≡ rest)
+    → (Passed (tests ++ rest) → done ≡ written q w o) → decide (put s q w) b (begun ++ seen) done ≡ written q w (decide s b (tests ++ rest) o)
+unfolding decide
+decided-after s q w b tests begun rest seen o done e f g =
+    ap (λ (xs : List (Bool × Fault)). decide (put s q w) b (xs ++ seen) done) e ∙ same-after (refuse (put s q w) b) tests seen rest done f
+    ∙ decided-write s q w b (tests ++ rest) (tests ++ rest) o done refl g
 
 -- ---- what is moved to and from other values
 -- an accepted buffer, and values at base that a write into q.. does not meet
@@ -347,13 +359,28 @@ module _ (l : Layout) (so : Sound l) (s : List ℕ) (good : wellFormed l s ≡ t
   pub apart-mark : (c : Call) → Elsewhere g c → isTaken l (header l (outcome l s c .store)) j ≡ isTaken l (header l s) j
   apart-mark c n = keeps c n .marked
 
-  -- ---- a write into the slot's values, before or after the call
-  module _ (q : ℕ) (w : List ℕ) (from : slotAt l j ≤ q) (upto : q + length w ≤ slotAt l j + slotBytes) where
+  -- ---- a write into the slot's values or the guest's own, before or after the call
+  guest-bounds : (1 ≤ g) × (g ≤ l .guests)
+  guest-bounds = live-parts l (header l s) g (ours .alive)
+
+  -- from q on, n bytes
+  abbrev Own : ℕ → ℕ → Type 0
+  Own q n = ((slotAt l j ≤ q) × (q + n ≤ slotAt l j + slotBytes)) ⊎ ((guestAt l g ≤ q) × (q + n ≤ guestAt l g + guestBytes))
+
+  module _ (q : ℕ) (w : List ℕ) (own : Own q (length w)) where
     behind : l .«guests_at» ≤ q
-    behind = omega (arith, so .guests-fit)
+    behind = go own
+      where
+        go : Own q (length w) → l .«guests_at» ≤ q
+        go (inl h) = omega (arith, h .0, so .guests-fit)
+        go (inr h) = omega (arith, h .0)
 
     room : q + length w ≤ length s
-    room = omega (arith, long, so .whole)
+    room = go own
+      where
+        go : Own q (length w) → q + length w ≤ length s
+        go (inl h) = omega (arith, h .1, long, so .whole)
+        go (inr h) = omega (arith, h .1, long, so .whole, so .guests-fit, guest-bounds .0, guest-bounds .1)
 
     -- the tests see the header and the length only
     formed-same : wellFormed l (put s q w) ≡ wellFormed l s
@@ -363,14 +390,26 @@ module _ (l : Layout) (so : Sound l) (s : List ℕ) (good : wellFormed l s ≡ t
     header-same = header-values l so s q w behind
 
     slot-clear : (a : ℕ) → a ≢ j → Clear (slotAt l a) slotBytes q (length w)
-    slot-clear a n = go (slots-apart l a j n)
+    slot-clear a n = by own
       where
-        go : Clear (slotAt l a) slotBytes (slotAt l j) slotBytes → Clear (slotAt l a) slotBytes q (length w)
-        go (left h) = left (omega arith)
-        go (right h) = right (omega arith)
+        go : (slotAt l j ≤ q) × (q + length w ≤ slotAt l j + slotBytes) → Clear (slotAt l a) slotBytes (slotAt l j) slotBytes → Clear (slotAt l a) slotBytes q (length w)
+        go h (left x) = left (omega (arith, h .0, x))
+        go h (right x) = right (omega (arith, h .1, x))
 
-    guest-clear : (k : ℕ) → 1 ≤ k → k ≤ l .guests → Clear (guestAt l k) guestBytes q (length w)
-    guest-clear k lo hi = left (omega (arith, so .guests-fit))
+        by : Own q (length w) → Clear (slotAt l a) slotBytes q (length w)
+        by (inl h) = go h (slots-apart l a j n)
+        by (inr h) = right (omega (arith, h .1, so .guests-fit, guest-bounds .0, guest-bounds .1))
+
+    guest-clear : (k : ℕ) → k ≢ g → 1 ≤ k → k ≤ l .guests → Clear (guestAt l k) guestBytes q (length w)
+    guest-clear k n lo hi = by own
+      where
+        go : (guestAt l g ≤ q) × (q + length w ≤ guestAt l g + guestBytes) → Clear (guestAt l k) guestBytes (guestAt l g) guestBytes → Clear (guestAt l k) guestBytes q (length w)
+        go h (left x) = left (omega (arith, h .0, x))
+        go h (right x) = right (omega (arith, h .1, x))
+
+        by : Own q (length w) → Clear (guestAt l k) guestBytes q (length w)
+        by (inl h) = left (omega (arith, h .0, so .guests-fit))
+        by (inr h) = go h (guests-apart l k g lo (guest-bounds .0) n)
 
     caps-write : (flags : ℕ) → getCapabilities l (put s q w) flags ≡ written q w (getCapabilities l s flags)
     unfolding getCapabilities
@@ -381,16 +420,25 @@ module _ (l : Layout) (so : Sound l) (s : List ℕ) (good : wellFormed l s ≡ t
     unfolding position below table
     offset-place = refl
 
-    offset-same : (guest : ℕ) → 1 ≤ guest → guest ≤ l .guests → offsetOf l (put s q w) guest ≡ offsetOf l s guest
-    offset-same guest lo hi =
-        be-other s q w (guestAt l guest + position GuestWide 0x0004) 8 (clear-part (position GuestWide 0x0004) 8 (omega (arith, offset-place)) (clear-sym (guest-clear guest lo hi)))
+    offset-same : (guest : ℕ) → guest ≢ g → 1 ≤ guest → guest ≤ l .guests → offsetOf l (put s q w) guest ≡ offsetOf l s guest
+    offset-same guest n lo hi =
+        be-other s q w (guestAt l guest + position GuestWide 0x0004) 8 (clear-part (position GuestWide 0x0004) 8 (omega (arith, offset-place)) (clear-sym (guest-clear guest n lo hi)))
 
-    clock-write : (guest timebase : ℕ) → guestClock l (put s q w) guest timebase ≡ written q w (guestClock l s guest timebase)
+    -- and so is the PVR, which decides the list
+    context-same : (guest : ℕ) (usage : Usage) → guest ≢ g → live l (header l s) guest ≡ true → contextOf l (put s q w) guest usage ≡ contextOf l s guest usage
+    context-same guest usage n lv =
+        let b = live-parts l (header l s) guest lv in
+        let place = pvr-place in
+        ap₂ (λ (h : List ℕ) (v : ℕ). record { usage = usage; capabilities = capabilitiesOf h; offer = offerOf v }) header-same
+        (be-other s q w (guestAt l guest + position GuestWide 0x0003) 4
+        (clear-part (position GuestWide 0x0003) 4 (omega (arith, place)) (clear-sym (guest-clear guest n (b .0) (b .1)))))
+
+    clock-write : (guest timebase : ℕ) → guest ≢ g → guestClock l (put s q w) guest timebase ≡ written q w (guestClock l s guest timebase)
     unfolding guestClock
-    clock-write guest timebase =
+    clock-write guest timebase n =
         decided-write s q w [] _ _ _ _ (rw (formed-same, header-same))
         (λ p. let b = live-parts l (header l s) guest (not-false _ (p .1 .0)) in
-        ap (λ (x : ℕ). accept ((timebase + roundedUp x) % 2 ^ 64) (put s q w)) (offset-same guest (b .0) (b .1)))
+        ap (λ (x : ℕ). accept ((timebase + roundedUp x) % 2 ^ 64) (put s q w)) (offset-same guest n (b .0) (b .1)))
 
     -- fields of the header, in a store t of the same length
     module _ (t : List ℕ) (same : length t ≡ length s) where
@@ -414,15 +462,22 @@ module _ (l : Layout) (so : Sound l) (s : List ℕ) (good : wellFormed l s ≡ t
     zeros-write : (t : List ℕ) (i n : ℕ) → Clear i n q (length w) → put (put t q w) i (zeros n) ≡ put (put t i (zeros n)) q w
     zeros-write t i n c = sym (put-comm t i (zeros n) q w (subst (λ (m : ℕ). Clear i m q (length w)) (sym (length-zeros n)) c))
 
-    made-guest : (k : ℕ) → 1 ≤ k → k ≤ l .guests → withGuest l (put s q w) k ≡ put (withGuest l s k) q w
+    made-guest : (k : ℕ) → k ≢ g → 1 ≤ k → k ≤ l .guests → withGuest l (put s q w) k ≡ put (withGuest l s k) q w
     unfolding withGuest
-    made-guest k lo hi = ap (λ (t : List ℕ). put t (guestAt l k) (zeros guestBytes)) (live-beside s refl k 1 hi) ∙ zeros-write (putLive s k 1) (guestAt l k) guestBytes (guest-clear k lo hi)
+    made-guest k n lo hi = ap (λ (t : List ℕ). put t (guestAt l k) (zeros guestBytes)) (live-beside s refl k 1 hi) ∙ zeros-write (putLive s k 1) (guestAt l k) guestBytes (guest-clear k n lo hi)
+
+    -- the id that is free is no live guest's
+    dead-other : freeGuest l (header l s) ≤ l .guests → freeGuest l (header l s) ≢ g
+    unfolding freeGuest isDead
+    dead-other hi z =
+        no-bool (sym (not-true _ (first-found (isDead l (header l s)) (l .guests) 1 (omega (arith, hi)) .has)) ∙ ap (live l (header l s)) z ∙ ours .alive)
 
     guest-write : (flags token : ℕ) → createGuest l (put s q w) flags token ≡ written q w (createGuest l s flags token)
     unfolding createGuest freeGuest
     guest-write flags token =
         decided-write s q w [] _ _ _ _ (rw (formed-same, header-same))
-        (λ p. rw header-same (ap (accept (freeGuest l (header l s))) (made-guest (freeGuest l (header l s)) (first-bounds (isDead l (header l s)) (l .guests) 1 .0) (ltb-false _ _ (p .1 .1 .1 .0)))))
+        (λ p. let hi : freeGuest l (header l s) ≤ l .guests = ltb-false _ _ (p .1 .1 .1 .0) in
+        rw header-same (ap (accept (freeGuest l (header l s))) (made-guest (freeGuest l (header l s)) (dead-other hi) (first-bounds (isDead l (header l s)) (l .guests) 1 .0) hi)))
 
     made-vcpu : (a guest vcpu : ℕ) → a < l .slots → a ≢ j → withVcpu l (put s q w) a guest vcpu ≡ put (withVcpu l s a guest vcpu) q w
     unfolding withVcpu
@@ -465,27 +520,35 @@ module _ (l : Layout) (so : Sound l) (s : List ℕ) (good : wellFormed l s ≡ t
 
     base-clear : (wide : Bool) (guest vcpu : ℕ) → guest ≢ g → live l (header l s) guest ≡ true → Clear (baseOf l s wide guest vcpu) (cond wide guestBytes slotBytes) q (length w)
     unfolding baseOf
-    base-clear true guest vcpu n lv = let b = live-parts l (header l s) guest lv in guest-clear guest (b .0) (b .1)
+    base-clear true guest vcpu n lv = let b = live-parts l (header l s) guest lv in guest-clear guest n (b .0) (b .1)
     base-clear false guest vcpu n lv = slot-clear (slotOf l (header l s) guest vcpu) (slot-other guest vcpu n)
+
+    abbrev targets : ℕ → ℕ → ℕ → List (Bool × Fault)
+    targets flags guest vcpu = targetTests l s (supportedBits (hasBit0 flags)) flags (hasBit0 flags) guest vcpu
+
+    targets-same : (flags guest vcpu : ℕ) → targetTests l (put s q w) (supportedBits (hasBit0 flags)) flags (hasBit0 flags) guest vcpu ≡ targets flags guest vcpu
+    targets-same flags guest vcpu = rw (formed-same, header-same)
 
     got-write : (flags guest vcpu : ℕ) (b : List ℕ) → guest ≢ g → getElements l (put s q w) flags guest vcpu b ≡ written q w (getElements l s flags guest vcpu b)
     unfolding getElements
     got-write flags guest vcpu b n =
-        decided-write s q w b _ _ _ _ (rw (formed-same, header-same))
+        decided-after s q w b (targets flags guest vcpu) _ _ _ _ _ (targets-same flags guest vcpu)
+        (λ p. ap (λ (k : Context). bufferTests k b) (context-same guest (getUse (hasBit0 flags)) n (not-false _ (p .1 .1 .0))))
         (λ p. let wide = hasBit0 flags in
         let c = subst (λ (m : ℕ). Clear (baseOf l s wide guest vcpu) m q (length w)) (sym (get-room l s flags guest vcpu b)) (base-clear wide guest vcpu n (not-false _ (p .1 .1 .0))) in
         rw (base-same wide guest vcpu)
         (ap (λ (x : List ℕ). record { answer = success 0; store = put s q w; buffer = x })
-        (filled-write (contextOf l s (getUse wide)) (baseOf l s wide guest vcpu) b (walked l s flags guest vcpu b (getUse wide) p) q w c (countOf b) (omega arith) s)))
+        (filled-write (contextOf l s guest (getUse wide)) (baseOf l s wide guest vcpu) b (walked l s flags guest vcpu b (getUse wide) p) q w c (countOf b) (omega arith) s)))
 
     elements-write : (flags guest vcpu : ℕ) (b : List ℕ) → guest ≢ g → setElements l (put s q w) flags guest vcpu b ≡ written q w (setElements l s flags guest vcpu b)
     unfolding setElements
     elements-write flags guest vcpu b n =
-        decided-write s q w [] _ _ _ _ (rw (formed-same, header-same))
+        decided-after s q w [] (targets flags guest vcpu) _ _ _ _ _ (targets-same flags guest vcpu)
+        (λ p. ap (λ (k : Context). bufferTests k b) (context-same guest (setUse (hasBit0 flags)) n (not-false _ (p .1 .1 .0))))
         (λ p. let wide = hasBit0 flags in
         let c = subst (λ (m : ℕ). Clear (baseOf l s wide guest vcpu) m q (length w)) (sym (set-room l s flags guest vcpu b)) (base-clear wide guest vcpu n (not-false _ (p .1 .1 .0))) in
         rw (base-same wide guest vcpu)
-        (ap (accept 0) (applied-write (contextOf l s (setUse wide)) (baseOf l s wide guest vcpu) b (walked l s flags guest vcpu b (setUse wide) p) q w c (countOf b) (omega arith) s)))
+        (ap (accept 0) (applied-write (contextOf l s guest (setUse wide)) (baseOf l s wide guest vcpu) b (walked l s flags guest vcpu b (setUse wide) p) q w c (countOf b) (omega arith) s)))
 
     -- another guest's vCPU handed over
     handed-same : (guest vcpu : ℕ) (v : List ℕ) (b : ℕ) → guest ≢ g → slotOf l (header l s) guest vcpu < l .slots → length v ≡ slotBytes
@@ -548,8 +611,17 @@ module _ (l : Layout) (so : Sound l) (s : List ℕ) (good : wellFormed l s ≡ t
       output-same : outputSize (put s q w) base ≡ outputSize s base
       output-same = size-same 0x0C01 (omega (arith, places .1))
 
-      tests-same : runTests l (put s q w) flags guest vcpu input (length output) effect exit ≡ runTests l s flags guest vcpu input (length output) effect exit
-      tests-same = rw (formed-same, header-same, base-same false guest vcpu, input-same, output-same)
+      abbrev earlier : List (Bool × Fault)
+      earlier = runTargetTests l s flags guest vcpu 0 (length input) (length output)
+
+      earlier-same : runTargetTests l (put s q w) flags guest vcpu 0 (length input) (length output) ≡ earlier
+      earlier-same = rw (formed-same, header-same, base-same false guest vcpu, input-same, output-same)
+
+      content-same : Passed earlier → contentTests l (put s q w) guest (inputOf (put s q w) (baseOf l (put s q w) false guest vcpu) input) effect exit ≡ contentTests l s guest (inputOf s base input) effect exit
+      content-same p =
+          let lv = not-false _ (p .1 .1 .0) in
+          rw (base-same false guest vcpu, input-same)
+          (ap₂ (λ (k m : Context). badElement k (inputOf s base input) ∷ exitTests m effect exit) (context-same guest RunInput n lv) (context-same guest InEffect n lv))
 
       -- the bytes of the lent input that count
       abbrev given : List ℕ
@@ -558,8 +630,8 @@ module _ (l : Layout) (so : Sound l) (s : List ℕ) (good : wellFormed l s ≡ t
       ran-store : Passed (runTests l s flags guest vcpu input (length output) effect exit) → ranStore base given effect (put s q w) ≡ put (ranStore base given effect s) q w
       unfolding ranStore
       ran-store p =
-          ap (applied base effect (countOf effect)) (applied-write (contextOf l s RunInput) base given (input-walked l s flags guest vcpu input output effect exit p) q w clear (countOf given) (omega arith) s)
-          ∙ applied-write (contextOf l s InEffect) base effect (effect-walked l s flags guest vcpu input output effect exit p) q w clear (countOf effect) (omega arith) (applied base given (countOf given) s)
+          ap (applied base effect (countOf effect)) (applied-write (contextOf l s guest RunInput) base given (input-walked l s flags guest vcpu input output effect exit p) q w clear (countOf given) (omega arith) s)
+          ∙ applied-write (contextOf l s guest InEffect) base effect (effect-walked l s flags guest vcpu input output effect exit p) q w clear (countOf effect) (omega arith) (applied base given (countOf given) s)
 
       ran-write : Passed (runTests l s flags guest vcpu input (length output) effect exit) → ran base (put s q w) given output effect exit ≡ written q w (ran base s given output effect exit)
       unfolding ran
@@ -569,7 +641,7 @@ module _ (l : Layout) (so : Sound l) (s : List ℕ) (good : wellFormed l s ≡ t
 
       run-write : runVcpu l (put s q w) flags guest vcpu input output effect exit ≡ written q w (runVcpu l s flags guest vcpu input output effect exit)
       unfolding runVcpu
-      run-write = decided-write s q w output _ _ _ _ tests-same (λ p. rw (base-same false guest vcpu, input-same) (ran-write p))
+      run-write = decided-after s q w output earlier _ _ _ _ _ earlier-same content-same (λ p. rw (base-same false guest vcpu, input-same) (ran-write p))
 
     pub apart-write : (c : Call) → Elsewhere g c → outcome l (put s q w) c ≡ record { answer = outcome l s c .answer; store = put (outcome l s c .store) q w; buffer = outcome l s c .buffer }
     unfolding outcome
@@ -581,17 +653,31 @@ module _ (l : Layout) (so : Sound l) (s : List ℕ) (good : wellFormed l s ≡ t
     apart-write (SetState flags guest vcpu buffer) n = set-write flags guest vcpu buffer n
     apart-write (RunVcpu flags guest vcpu input output effect exit) n = run-write flags guest vcpu input output effect exit n
     apart-write (DeleteGuest flags guest) n = delete-write flags guest (n .0)
-    apart-write (GuestClock guest timebase) n = clock-write guest timebase
+    apart-write (GuestClock guest timebase) n = clock-write guest timebase n
 
-  -- the slot's own values written back: the call leaves them there
-  pub apart-values : (c : Call) → Elsewhere g c → bytesAt (outcome l s c .store) (slotAt l j) slotBytes ≡ bytesAt s (slotAt l j) slotBytes
-  apart-values c n =
-      let w = bytesAt s (slotAt l j) slotBytes in
+  -- own values written back: the call leaves them there
+  own-kept : (at n : ℕ) → Own at n → at + n ≤ l .size → (c : Call) → Elsewhere g c → bytesAt (outcome l s c .store) at n ≡ bytesAt s at n
+  own-kept at n own room c far =
+      let w = bytesAt s at n in
       let t = outcome l s c .store in
-      let len : length (bytesAt s (slotAt l j) slotBytes) ≡ slotBytes = length-bytesAt s (slotAt l j) slotBytes (omega (arith, long, so .whole)) in
-      let e : outcome l s c .store ≡ put (outcome l s c .store) (slotAt l j) (bytesAt s (slotAt l j) slotBytes) =
-      ap (λ (x : List ℕ). outcome l x c .store) (sym (put-same s (slotAt l j) slotBytes)) ∙ ap (λ (o : Outcome). o .store) (apart-write (slotAt l j) w (omega arith) (omega (arith, len)) c n) in
-      ap₂ (λ (x : List ℕ) (m : ℕ). bytesAt x (slotAt l j) m) e (sym len) ∙ read-back t (slotAt l j) w (omega (arith, len, formed l t (well-formed-kept l so s good c) .long, so .whole))
+      let len : length (bytesAt s at n) ≡ n = length-bytesAt s at n (omega (arith, long, room)) in
+      let e : outcome l s c .store ≡ put (outcome l s c .store) at (bytesAt s at n) =
+      ap (λ (x : List ℕ). outcome l x c .store) (sym (put-same s at n)) ∙ ap (λ (o : Outcome). o .store) (apart-write at w (subst (Own at) (sym len) own) c far) in
+      ap₂ (λ (x : List ℕ) (m : ℕ). bytesAt x at m) e (sym len) ∙ read-back t at w (omega (arith, len, formed l t (well-formed-kept l so s good c) .long, room))
+
+  pub apart-values : (c : Call) → Elsewhere g c → bytesAt (outcome l s c .store) (slotAt l j) slotBytes ≡ bytesAt s (slotAt l j) slotBytes
+  apart-values = own-kept (slotAt l j) slotBytes (inl (omega arith, omega arith)) (omega (arith, so .whole))
+
+  pub apart-guest : (c : Call) → Elsewhere g c → bytesAt (outcome l s c .store) (guestAt l g) guestBytes ≡ bytesAt s (guestAt l g) guestBytes
+  apart-guest = own-kept (guestAt l g) guestBytes (inr (omega arith, omega arith)) (omega (arith, so .whole, so .guests-fit, guest-bounds .0, guest-bounds .1))
+
+  -- so that the guest's list stays
+  pub apart-pvr : (c : Call) → Elsewhere g c → pvrOf l (outcome l s c .store) g ≡ pvrOf l s g
+  apart-pvr c far =
+      let place = pvr-place in
+      sym (be-part (outcome l s c .store) (guestAt l g) guestBytes (position GuestWide 0x0003) 4 (omega (arith, place)))
+      ∙ ap (λ (x : List ℕ). be x (position GuestWide 0x0003) 4) (apart-guest c far)
+      ∙ be-part s (guestAt l g) guestBytes (position GuestWide 0x0003) 4 (omega (arith, place))
 
 -- ---- the hypotheses can be met: vCPU 2047 of guest 3 in slot 0, vCPU 0 of guest 1 in slot 1
 abbrev sample : List ℕ

@@ -8,6 +8,7 @@ use Rattle.octets.specs.Bytes.{bytesAt, put, be, digits, zeros}
 use Rattle.octets.specs.Bits.{bit, bits, ins, setBit, putBits}
 use Rattle.octets.proofs.Bytes.{put-same}
 use Rattle.elements.specs.Table.{table, below, position, sourceOf, find, kindOf}
+use Rattle.elements.specs.Later.{later, isLater, offerOf, offers}
 use Rattle.rules.specs.Rules.{allows, permits, sizeFits, ruleOf, goodValue}
 use Rattle.gsb.specs.Walk.{offsetAt, judged, walkOn as next, walk, firstBad}
 use Rattle.transfer.specs.Transfer.{putFrom, putAs, applied, readFrom, fillAs, filled}
@@ -56,7 +57,7 @@ away = ap (λ (s : List ℕ). putTaken small s 0 1) (put-same (plain (0x80 ∷ 0
 
 -- ---- the cases
 computed : agrees (edgesOf (plain (0x80 ∷ 0 ∷ 0x88 ∷ 0x00 ∷ [])) (plain (0xE0 ∷ 0 ∷ 0x9F ∷ 0xFF ∷ 0x88 ∷ 0x00 ∷ [])) marked) ≡ true
-unfolding bytesAt put be digits zeros bit bits table below position sourceOf find kindOf allows permits sizeFits ruleOf goodValue offsetAt judged next walk firstBad putFrom putAs applied readFrom fillAs filled every first header capabilitiesOf live word wordOf isUsed guestOf isTaken holds lacks alone slotGood headGood wordsGood slotHolding slotOf wellFormed fresh exits isAmong decide baseOf getElements getState setElements setState takeVcpu giveVcpu begins opens isShown sound formHolds formNext ran runVcpu createVcpu freeSlot guestClock ins setBit putBits putTaken outcome registers element bufferOf one registered goodThenBad r3 r4 r5 zerosBefore placed readAfter clockWith readWide edgesOf leadingZeros
+unfolding bytesAt put be digits zeros bit bits table below position sourceOf find kindOf allows offers offerOf isLater later permits sizeFits ruleOf goodValue offsetAt judged next walk firstBad putFrom putAs applied readFrom fillAs filled every first header capabilitiesOf live word wordOf isUsed guestOf isTaken holds lacks alone slotGood headGood wordsGood slotHolding slotOf wellFormed fresh exits isAmong decide baseOf getElements getState setElements setState takeVcpu giveVcpu begins opens isShown sound formHolds formNext ran runVcpu createVcpu freeSlot guestClock ins setBit putBits putTaken outcome registers element bufferOf one registered goodThenBad r3 r4 r5 zerosBefore placed readAfter clockWith readWide edgesOf leadingZeros
 computed = refl
 
 pub edges : agrees starred ≡ true

@@ -11,3 +11,4 @@ pub mod Used
 pub mod Edges
 pub mod Apart
 pub mod Pvr
+pub mod Lists

@@ -26,6 +26,7 @@ use Rattle.elements.specs.Table.{table, below, position, sourceOf, find, kindOf
 use Rattle.elements.proofs.Table.{source-stored, behind-pvr}
 use Rattle.rules.specs.declared.Context.{Context}
 use Rattle.rules.specs.declared.Usage.the-variants.{GuestSet}
+use Rattle.elements.specs.Later.{later, isLater, offerOf, offers}
 use Rattle.rules.specs.Rules.{scopeFor, allows, permits, sizeFits, goodPvr, ruleOf, isSetting, goodValue}
 use Rattle.rules.proofs.Rules.{size-listed, permits-scope}
 use Rattle.gsb.specs.declared.Walked.the-variants.{Done}
@@ -49,13 +50,13 @@ use Rattle.admission.specs.Refusals.{Outcome, refuse, decide, Passed, hasBit0, 
 use Rattle.admission.specs.Target.{slotNamed, targetTests, baseOf}
 use Rattle.handover.specs.Form.{valuesOf, taken}
 use Rattle.state.specs.HandOver.{takeVcpu, giveVcpu}
-use Rattle.state.specs.State.{contextOf, supportedBits, setUse, bufferTests, setElements, setState, getElements}
+use Rattle.state.specs.State.{pvrOf, contextOf, supportedBits, setUse, bufferTests, setElements, setState, getElements}
 use Rattle.state.proofs.HandOvers.{set-plain, get-ways, set-ways}
 use Rattle.promises.proofs.HandedOver.{handed, handed-live, handed-caps, handed-beside, Slotted, take-slotted, give-slotted, given-length}
 use Rattle.run.specs.Run.{inputOf, ranStore, ran, runVcpu}
 use Rattle.guests.specs.Guests.{createGuest, createVcpu, deleteGuest}
 use Rattle.l0.specs.Calls.{getCapabilities, setCapabilities, guestClock, Call, GetCapabilities, SetCapabilities, CreateGuest, CreateVcpu, GetState, SetState, RunVcpu, DeleteGuest, GuestClock, outcome, after}
-use Rattle.promises.specs.Agreed.{pvrOf, ZeroOrAgreed, PvrAgreed, bothPvrs, LivesWith}
+use Rattle.promises.specs.Agreed.{ZeroOrAgreed, PvrAgreed, bothPvrs, LivesWith}
 use Rattle.promises.specs.Edges.{element, bufferOf, one}
 use Rattle.promises.proofs.Kept.{decided, applied-header, base-values}
 use Rattle.promises.proofs.Lowest.{all-dead}
@@ -340,13 +341,13 @@ module _ (l : Layout) (so : Sound l) where
         settled (inl e) = subst (ZeroOrAgreed (capabilitiesOf (header l s))) (sym e) (given guest alive)
         settled (inr e) = inr e
 
-        done : Passed (targetTests l s (supportedBits (hasBit0 flags)) flags (hasBit0 flags) guest vcpu ++ bufferTests l s (setUse (hasBit0 flags)) b)
+        done : Passed (targetTests l s (supportedBits (hasBit0 flags)) flags (hasBit0 flags) guest vcpu ++ bufferTests (contextOf l s guest (setUse (hasBit0 flags))) b)
             → ZeroOrAgreed (capabilitiesOf (header l s)) (pvrOf l (applied (baseOf l s (hasBit0 flags) guest vcpu) b (countOf b) s) guest)
         done p =
             let r = live-parts l (header l s) guest alive in
             let long = formed l s (not-false _ (p .0)) .long in
             let base : baseOf l s (hasBit0 flags) guest vcpu ≡ guestAt l guest = wide-base l s flags guest vcpu b plain wide in
-            let k = contextOf l s (setUse (hasBit0 flags)) in
+            let k = contextOf l s guest (setUse (hasBit0 flags)) in
             let u : setUse (hasBit0 flags) ≡ GuestSet = ap setUse wide in
             subst (λ (x : ℕ). ZeroOrAgreed (capabilitiesOf (header l s)) (pvrOf l (applied x b (countOf b) s) guest)) (sym base)
             (settled (applied-left k u (guestAt l guest) b (walked l s flags guest vcpu b (setUse (hasBit0 flags)) p) (countOf b) (omega arith) s (omega (arith, long, so .guests-fit, so .whole, r .0, r .1))))
@@ -553,5 +554,5 @@ module _ (l : Layout) (so : Sound l) where
 
 -- ---- it is not empty: a history in which a guest lives with each of the two PVRs. Computed.
 pub both-live : LivesWith small (after small (fresh small) bothPvrs) 1 0x0F000005 × LivesWith small (after small (fresh small) bothPvrs) 2 0x0F000006
-unfolding bytesAt put be digits zeros bit bits ins setBit putBits table below position sourceOf find kindOf allows permits sizeFits goodPvr ruleOf goodValue offsetAt judged walkOn walk firstBad putFrom putAs applied every first header capabilitiesOf live word isUsed guestOf isTaken lacks alone slotGood headGood wordsGood isDead freeGuest anyLive wellFormed fresh putCapabilities putLive withGuest decide baseOf setElements setState createGuest setCapabilities outcome after element bufferOf one bothPvrs
+unfolding bytesAt put be digits zeros bit bits ins setBit putBits table below position sourceOf find kindOf allows offers offerOf isLater later permits sizeFits goodPvr ruleOf goodValue offsetAt judged walkOn walk firstBad putFrom putAs applied every first header capabilitiesOf live word isUsed guestOf isTaken lacks alone slotGood headGood wordsGood isDead freeGuest anyLive wellFormed fresh putCapabilities putLive withGuest decide baseOf setElements setState createGuest setCapabilities outcome after element bufferOf one bothPvrs
 both-live = (record { alive = refl; pvr = refl }, record { alive = refl; pvr = refl })

@@ -73,10 +73,10 @@ module _ (l : Layout) (s : List ℕ) (flags guest vcpu : ℕ) (input output effe
   -- ---- Demand 2: "Past the earlier checks, a buffer is refused for an element exactly if it holds a bad one, and the place told is the
   -- first." 02, L4: "run keeps the offset in R4 and puts the index in R5, in 14 too (both 0 if the effect's length is bad)".
   abbrev judgeInput : ℕ → Verdict
-  judgeInput = judged (contextOf l s RunInput) given
+  judgeInput = judged (contextOf l s guest RunInput) given
 
   abbrev judgeEffect : ℕ → Verdict
-  judgeEffect = judged (contextOf l s InEffect) effect
+  judgeEffect = judged (contextOf l s guest InEffect) effect
 
   -- what is told of an effect, v being what its walk finds, and from 13 on
   abbrev effectShown : Bad → Place → Registers
@@ -89,21 +89,21 @@ module _ (l : Layout) (s : List ℕ) (flags guest vcpu : ℕ) (input output effe
   later k long v = cond (not k) (three 13 0 0) (cond long (three 14 0 0) (effectTold v))
 
   abbrev found : Walked
-  found = firstBad (contextOf l s InEffect) effect
+  found = firstBad (contextOf l s guest InEffect) effect
 
   abbrev laterTold : Registers
   laterTold = later (known exit) (badLength effect) found
 
   -- past 1 to 12
   module _ (p : Passed (beforeInput l s flags guest vcpu input output)) where
-    past : after ≡ firstOf (refuse s output) (contentTests l s given effect exit) done
+    past : after ≡ firstOf (refuse s output) (contentTests l s guest given effect exit) done
     unfolding runVcpu decide
-    past = skip (refuse s output) earlier (contentTests l s given effect exit) done p
+    past = skip (refuse s output) earlier (contentTests l s guest given effect exit) done p
 
     -- what is told is what the walk of the input finds, then 13, then what the walk of the effect finds
-    run-told : registers l s call ≡ toldBy (elementTold Name.RunVcpu) laterTold (firstBad (contextOf l s RunInput) given)
+    run-told : registers l s call ≡ toldBy (elementTold Name.RunVcpu) laterTold (firstBad (contextOf l s guest RunInput) given)
     unfolding registers outcome ran
-    run-told = ap (tells Name.RunVcpu) past ∙ go (firstBad (contextOf l s RunInput) given) (known exit) (badLength effect) found
+    run-told = ap (tells Name.RunVcpu) past ∙ go (firstBad (contextOf l s guest RunInput) given) (known exit) (badLength effect) found
       where
         go : (w : Walked) (k long : Bool) (v : Walked)
             → tells Name.RunVcpu (cond (isStopped w) (refuse s output (faultOf w)) (cond (not k) (refuse s output Exit) (cond long (refuse s output (Effect (record { index = 0; offset = 0 }))) (cond (isStopped v) (refuse s output (effectFault v)) done))))
@@ -115,9 +115,9 @@ module _ (l : Layout) (s : List ℕ) (flags guest vcpu : ℕ) (input output effe
         go Done true false Done = refl
 
     pub run-refused-exactly : (bad : Bad) (at i : ℕ) → (registers l s (RunVcpu flags guest vcpu input output effect exit) ≡ three (badNumber bad) at i)
-        ↔ (FirstBadAt (judged (contextOf l s RunInput) (inputGiven l s guest vcpu input)) (inputGiven l s guest vcpu input) i bad × (offsetAt (inputGiven l s guest vcpu input) i ≡ at))
+        ↔ (FirstBadAt (judged (contextOf l s guest RunInput) (inputGiven l s guest vcpu input)) (inputGiven l s guest vcpu input) i bad × (offsetAt (inputGiven l s guest vcpu input) i ≡ at))
     run-refused-exactly bad at i =
-        element-told judgeInput given (judged-leads (contextOf l s RunInput) given) (firstBad (contextOf l s RunInput) given) (first-walk (contextOf l s RunInput) given) Name.RunVcpu laterTold bad
+        element-told judgeInput given (judged-leads (contextOf l s guest RunInput) given) (firstBad (contextOf l s guest RunInput) given) (first-walk (contextOf l s guest RunInput) given) Name.RunVcpu laterTold bad
         (other bad (known exit) (badLength effect) found) offsetFirstIn (λ bad′ place. refl) (record { index = i; offset = at }) _ run-told
       where
         -- 0, 13 and 14 are not 6, 7 or 8
@@ -128,47 +128,47 @@ module _ (l : Layout) (s : List ℕ) (flags guest vcpu : ℕ) (input output effe
         other b true false Done e = number-some b e
 
     pub run-accepted-exactly : (registers l s (RunVcpu flags guest vcpu input output effect exit) .r3 ≡ 0)
-        ↔ (InputGood l s guest vcpu input × (known exit ≡ true) × (badLength effect ≡ false) × EffectGood l s effect)
+        ↔ (InputGood l s guest vcpu input × (known exit ≡ true) × (badLength effect ≡ false) × EffectGood l s guest effect)
     run-accepted-exactly = (there, back)
       where
-        input-good : (toldBy (elementTold Name.RunVcpu) laterTold (firstBad (contextOf l s RunInput) given) .r3 ≡ 0) ↔ (InputGood l s guest vcpu input × (laterTold .r3 ≡ 0))
-        input-good = good-told judgeInput given (judged-leads (contextOf l s RunInput) given) (firstBad (contextOf l s RunInput) given) (first-walk (contextOf l s RunInput) given) (elementTold Name.RunVcpu) laterTold (λ bad place q. number-some bad (sym q))
+        input-good : (toldBy (elementTold Name.RunVcpu) laterTold (firstBad (contextOf l s guest RunInput) given) .r3 ≡ 0) ↔ (InputGood l s guest vcpu input × (laterTold .r3 ≡ 0))
+        input-good = good-told judgeInput given (judged-leads (contextOf l s guest RunInput) given) (firstBad (contextOf l s guest RunInput) given) (first-walk (contextOf l s guest RunInput) given) (elementTold Name.RunVcpu) laterTold (λ bad place q. number-some bad (sym q))
 
-        effect-good : (effectTold found .r3 ≡ 0) ↔ (EffectGood l s effect × (_≡_ {A = ℕ} 0 0))
-        effect-good = good-told judgeEffect effect (judged-leads (contextOf l s InEffect) effect) found (first-walk (contextOf l s InEffect) effect) effectShown (three 0 exit 0) (λ bad place q. omega arith)
+        effect-good : (effectTold found .r3 ≡ 0) ↔ (EffectGood l s guest effect × (_≡_ {A = ℕ} 0 0))
+        effect-good = good-told judgeEffect effect (judged-leads (contextOf l s guest InEffect) effect) found (first-walk (contextOf l s guest InEffect) effect) effectShown (three 0 exit 0) (λ bad place q. omega arith)
 
         parts : (k long : Bool) → later k long found .r3 ≡ 0 → (k ≡ true) × (long ≡ false) × (effectTold found .r3 ≡ 0)
         parts false long e = absurd (omega arith)
         parts true true e = absurd (omega arith)
         parts true false e = (refl, refl, e)
 
-        there : registers l s call .r3 ≡ 0 → InputGood l s guest vcpu input × (known exit ≡ true) × (badLength effect ≡ false) × EffectGood l s effect
+        there : registers l s call .r3 ≡ 0 → InputGood l s guest vcpu input × (known exit ≡ true) × (badLength effect ≡ false) × EffectGood l s guest effect
         there e =
             let i = input-good .0 (sym (ap (λ (r : Registers). r .r3) run-told) ∙ e) in
             let x = parts (known exit) (badLength effect) (i .1) in
             (i .0, x .0, x .1, effect-good .0 (x .2) .0)
 
-        back : InputGood l s guest vcpu input × (known exit ≡ true) × (badLength effect ≡ false) × EffectGood l s effect → registers l s call .r3 ≡ 0
+        back : InputGood l s guest vcpu input × (known exit ≡ true) × (badLength effect ≡ false) × EffectGood l s guest effect → registers l s call .r3 ≡ 0
         back f = ap (λ (r : Registers). r .r3) run-told ∙ input-good .1 (f .0, ap₂ (λ (k long : Bool). later k long found .r3) (f .1) (f .2) ∙ effect-good .1 (f .3, refl))
 
     -- past 13 too
     module _ (good : InputGood l s guest vcpu input) (k : known exit ≡ true) where
       effect-told : registers l s call ≡ cond (badLength effect) (three 14 0 0) (effectTold found)
       effect-told =
-          run-told ∙ ap (toldBy (elementTold Name.RunVcpu) laterTold) (all-good (contextOf l s RunInput) given .1 good)
+          run-told ∙ ap (toldBy (elementTold Name.RunVcpu) laterTold) (all-good (contextOf l s guest RunInput) given .1 good)
           ∙ ap (λ (t : Bool). later t (badLength effect) found) k
 
       -- an effect of a good length
       module _ (g : badLength effect ≡ false) where
         pub effect-refused-exactly : (at i : ℕ) → (registers l s (RunVcpu flags guest vcpu input output effect exit) ≡ three 14 at i)
-            ↔ ((bad : Bad) × FirstBadAt (judged (contextOf l s InEffect) effect) effect i bad × (offsetAt effect i ≡ at))
+            ↔ ((bad : Bad) × FirstBadAt (judged (contextOf l s guest InEffect) effect) effect i bad × (offsetAt effect i ≡ at))
         effect-refused-exactly at i = (there, back)
           where
             walk-told : registers l s call ≡ effectTold found
             walk-told = effect-told ∙ ap (λ (t : Bool). cond t (three 14 0 0) (effectTold found)) g
 
             first : (effectTold found ≡ three 14 at i) ↔ ((j : ℕ) × (bad : Bad) × FirstBadAt judgeEffect effect j bad × (three 14 (offsetAt effect j) j ≡ three 14 at i))
-            first = first-told judgeEffect effect (judged-leads (contextOf l s InEffect) effect) found (first-walk (contextOf l s InEffect) effect) effectShown (three 0 exit 0) (three 14 at i) (λ e. let z : _≡_ {A = ℕ} 0 14 = ap (λ (r : Registers). r .r3) e in omega arith)
+            first = first-told judgeEffect effect (judged-leads (contextOf l s guest InEffect) effect) found (first-walk (contextOf l s guest InEffect) effect) effectShown (three 0 exit 0) (three 14 at i) (λ e. let z : _≡_ {A = ℕ} 0 14 = ap (λ (r : Registers). r .r3) e in omega arith)
 
             there : registers l s call ≡ three 14 at i → (bad : Bad) × FirstBadAt judgeEffect effect i bad × (offsetAt effect i ≡ at)
             there e =
@@ -191,11 +191,11 @@ module _ (l : Layout) (s : List ℕ) (flags guest vcpu : ℕ) (input output effe
   abbrev tests : List (Bool × Fault)
   tests = runTests l s flags guest vcpu input (length output) effect exit
 
-  pub input-walked : Passed tests → firstBad (contextOf l s RunInput) given ≡ Done
-  input-walked p = stopped-not (firstBad (contextOf l s RunInput) given) (p .1 .1 .1 .1 .1 .1 .1 .1 .1 .0)
+  pub input-walked : Passed tests → firstBad (contextOf l s guest RunInput) given ≡ Done
+  input-walked p = stopped-not (firstBad (contextOf l s guest RunInput) given) (p .1 .1 .1 .1 .1 .1 .1 .1 .1 .0)
 
-  pub effect-walked : Passed tests → firstBad (contextOf l s InEffect) effect ≡ Done
-  effect-walked p = stopped-not (firstBad (contextOf l s InEffect) effect) (p .1 .1 .1 .1 .1 .1 .1 .1 .1 .1 .1 .1 .0)
+  pub effect-walked : Passed tests → firstBad (contextOf l s guest InEffect) effect ≡ Done
+  effect-walked p = stopped-not (firstBad (contextOf l s guest InEffect) effect) (p .1 .1 .1 .1 .1 .1 .1 .1 .1 .1 .1 .1 .0)
 
   record ByteKept (j : ℕ) (o : Outcome) : Type 0 where
     kept : getD (o .store) j 0 ≡ getD s j 0
@@ -206,8 +206,8 @@ module _ (l : Layout) (s : List ℕ) (flags guest vcpu : ℕ) (input output effe
   run-only-named j n m =
       decided (ByteKept j) s output tests done (λ f. record { kept = refl })
       (λ p. record {
-        kept = applied-frame (contextOf l s InEffect) base effect (effect-walked p) (countOf effect) j (applied base given (countOf given) s) (omega arith) m
-            ∙ applied-frame (contextOf l s RunInput) base given (input-walked p) (countOf given) j s (omega arith) n;
+        kept = applied-frame (contextOf l s guest InEffect) base effect (effect-walked p) (countOf effect) j (applied base given (countOf given) s) (omega arith) m
+            ∙ applied-frame (contextOf l s guest RunInput) base given (input-walked p) (countOf given) j s (omega arith) n;
       }) .kept
 
   record PartKept (i n : ℕ) (o : Outcome) : Type 0 where
@@ -219,8 +219,8 @@ module _ (l : Layout) (s : List ℕ) (flags guest vcpu : ℕ) (input output effe
   run-beside i n c =
       decided (PartKept i n) s output tests done (λ f. record { same = refl })
       (λ p. record {
-        same = beside (contextOf l s InEffect) base effect (effect-walked p) (applied base given (countOf given) s) i n c
-            ∙ beside (contextOf l s RunInput) base given (input-walked p) s i n c;
+        same = beside (contextOf l s guest InEffect) base effect (effect-walked p) (applied base given (countOf given) s) i n c
+            ∙ beside (contextOf l s guest RunInput) base given (input-walked p) s i n c;
       }) .same
 
   length-ran : length (ranStore base given effect s) ≡ length s

@@ -61,54 +61,54 @@ module _ (l : Layout) (s : List ℕ) (flags guest vcpu : ℕ) (b : List ℕ) whe
   -- first." 02, L4: "Set and get state, and a lookup's 7, keep R4 as the index and put the byte offset in R5".
   module _ (p : Passed (targetTests l s (supportedBits (hasBit0 flags)) flags (hasBit0 flags) guest vcpu)) (g : badLength b ≡ false) (plain : handsOver flags ≡ false) where
     -- past the earlier tests, what is told is what the walk finds
-    walk-told : (c : Name) (usage : Usage) (lent : List ℕ) (o : Outcome) → o .answer ≡ success 0 → (x : Outcome) → x ≡ decide s lent (targetTests l s (supportedBits (hasBit0 flags)) flags (hasBit0 flags) guest vcpu ++ bufferTests l s usage b) o
-        → tells c x ≡ toldBy (elementTold c) (three 0 0 0) (firstBad (contextOf l s usage) b)
+    walk-told : (c : Name) (usage : Usage) (lent : List ℕ) (o : Outcome) → o .answer ≡ success 0 → (x : Outcome) → x ≡ decide s lent (targetTests l s (supportedBits (hasBit0 flags)) flags (hasBit0 flags) guest vcpu ++ bufferTests (contextOf l s guest usage) b) o
+        → tells c x ≡ toldBy (elementTold c) (three 0 0 0) (firstBad (contextOf l s guest usage) b)
     unfolding decide
     walk-told c usage lent o a x e =
-        ap (tells c) (e ∙ skip (refuse s lent) (targetTests l s (supportedBits (hasBit0 flags)) flags (hasBit0 flags) guest vcpu) (bufferTests l s usage b) o p)
-        ∙ ap (λ (t : Bool). tells c (cond t (refuse s lent Length) (firstOf (refuse s lent) (badElement (contextOf l s usage) b ∷ []) o))) g ∙ go (firstBad (contextOf l s usage) b)
+        ap (tells c) (e ∙ skip (refuse s lent) (targetTests l s (supportedBits (hasBit0 flags)) flags (hasBit0 flags) guest vcpu) (bufferTests (contextOf l s guest usage) b) o p)
+        ∙ ap (λ (t : Bool). tells c (cond t (refuse s lent Length) (firstOf (refuse s lent) (badElement (contextOf l s guest usage) b ∷ []) o))) g ∙ go (firstBad (contextOf l s guest usage) b)
       where
         go : (w : Walked) → tells c (cond (isStopped w) (refuse s lent (faultOf w)) o) ≡ toldBy (elementTold c) (three 0 0 0) w
         go Done = ap (λ (y : Answer). told c (y .fault) (y .value)) a
         go (Stopped bad place) = refl
 
-    set-told : registers l s (SetState flags guest vcpu b) ≡ toldBy (elementTold Name.SetState) (three 0 0 0) (firstBad (contextOf l s (setUse (hasBit0 flags))) b)
+    set-told : registers l s (SetState flags guest vcpu b) ≡ toldBy (elementTold Name.SetState) (three 0 0 0) (firstBad (contextOf l s guest (setUse (hasBit0 flags))) b)
     unfolding registers outcome setElements
     set-told = walk-told Name.SetState (setUse (hasBit0 flags)) [] _ refl _ (sym (set-plain l s flags guest vcpu b plain))
 
-    get-told : registers l s (GetState flags guest vcpu b) ≡ toldBy (elementTold Name.GetState) (three 0 0 0) (firstBad (contextOf l s (getUse (hasBit0 flags))) b)
+    get-told : registers l s (GetState flags guest vcpu b) ≡ toldBy (elementTold Name.GetState) (three 0 0 0) (firstBad (contextOf l s guest (getUse (hasBit0 flags))) b)
     unfolding registers outcome getElements
     get-told = walk-told Name.GetState (getUse (hasBit0 flags)) b _ refl _ (sym (get-plain l s flags guest vcpu b plain))
 
     pub set-refused-exactly : (bad : Bad) (i at : ℕ) → (registers l s (SetState flags guest vcpu b) ≡ three (badNumber bad) i at)
-        ↔ (FirstBadAt (judged (contextOf l s (setUse (hasBit0 flags))) b) b i bad × (offsetAt b i ≡ at))
+        ↔ (FirstBadAt (judged (contextOf l s guest (setUse (hasBit0 flags))) b) b i bad × (offsetAt b i ≡ at))
     set-refused-exactly bad i at =
-        let k = contextOf l s (setUse (hasBit0 flags)) in
+        let k = contextOf l s guest (setUse (hasBit0 flags)) in
         element-told (judged k b) b (judged-leads k b) (firstBad k b) (first-walk k b) Name.SetState (three 0 0 0) bad (number-some bad) indexFirstIn (λ bad′ place. refl) (record { index = i; offset = at }) _ set-told
 
     pub get-refused-exactly : (bad : Bad) (i at : ℕ) → (registers l s (GetState flags guest vcpu b) ≡ three (badNumber bad) i at)
-        ↔ (FirstBadAt (judged (contextOf l s (getUse (hasBit0 flags))) b) b i bad × (offsetAt b i ≡ at))
+        ↔ (FirstBadAt (judged (contextOf l s guest (getUse (hasBit0 flags))) b) b i bad × (offsetAt b i ≡ at))
     get-refused-exactly bad i at =
-        let k = contextOf l s (getUse (hasBit0 flags)) in
+        let k = contextOf l s guest (getUse (hasBit0 flags)) in
         element-told (judged k b) b (judged-leads k b) (firstBad k b) (first-walk k b) Name.GetState (three 0 0 0) bad (number-some bad) indexFirstIn (λ bad′ place. refl) (record { index = i; offset = at }) _ get-told
 
-    pub set-accepted-exactly : (registers l s (SetState flags guest vcpu b) .r3 ≡ 0) ↔ AllGood (judged (contextOf l s (setUse (hasBit0 flags))) b) b
+    pub set-accepted-exactly : (registers l s (SetState flags guest vcpu b) .r3 ≡ 0) ↔ AllGood (judged (contextOf l s guest (setUse (hasBit0 flags))) b) b
     set-accepted-exactly =
-        let k = contextOf l s (setUse (hasBit0 flags)) in
+        let k = contextOf l s guest (setUse (hasBit0 flags)) in
         zero-told (judged k b) b (judged-leads k b) (firstBad k b) (first-walk k b) Name.SetState _ set-told
 
-    pub get-accepted-exactly : (registers l s (GetState flags guest vcpu b) .r3 ≡ 0) ↔ AllGood (judged (contextOf l s (getUse (hasBit0 flags))) b) b
+    pub get-accepted-exactly : (registers l s (GetState flags guest vcpu b) .r3 ≡ 0) ↔ AllGood (judged (contextOf l s guest (getUse (hasBit0 flags))) b) b
     get-accepted-exactly =
-        let k = contextOf l s (getUse (hasBit0 flags)) in
+        let k = contextOf l s guest (getUse (hasBit0 flags)) in
         zero-told (judged k b) b (judged-leads k b) (firstBad k b) (first-walk k b) Name.GetState _ get-told
 
   -- ---- only what is named changes
   -- a buffer that passed its tests was walked to its end
-  pub walked : (usage : Usage) → Passed (targetTests l s (supportedBits (hasBit0 flags)) flags (hasBit0 flags) guest vcpu ++ bufferTests l s usage b) → firstBad (contextOf l s usage) b ≡ Done
-  walked usage p = not-stopped (firstBad (contextOf l s usage) b) (p .1 .1 .1 .1 .1 .1 .0)
+  pub walked : (usage : Usage) → Passed (targetTests l s (supportedBits (hasBit0 flags)) flags (hasBit0 flags) guest vcpu ++ bufferTests (contextOf l s guest usage) b) → firstBad (contextOf l s guest usage) b ≡ Done
+  walked usage p = not-stopped (firstBad (contextOf l s guest usage) b) (p .1 .1 .1 .1 .1 .1 .0)
 
   abbrev setTests : List (Bool × Fault)
-  setTests = targetTests l s (supportedBits (hasBit0 flags)) flags (hasBit0 flags) guest vcpu ++ bufferTests l s (setUse (hasBit0 flags)) b
+  setTests = targetTests l s (supportedBits (hasBit0 flags)) flags (hasBit0 flags) guest vcpu ++ bufferTests (contextOf l s guest (setUse (hasBit0 flags))) b
 
   abbrev setDone : Outcome
   setDone = accept 0 (applied (baseOf l s (hasBit0 flags) guest vcpu) b (countOf b) s)
@@ -121,7 +121,7 @@ module _ (l : Layout) (s : List ℕ) (flags guest vcpu : ℕ) (b : List ℕ) whe
   set-only-named plain j out =
       ap (λ (o : Outcome). getD (o .store) j 0) (sym (set-plain l s flags guest vcpu b plain))
       ∙ decided (ByteKept j) s [] setTests setDone (λ f. record { kept = refl })
-      (λ p. record { kept = applied-frame (contextOf l s (setUse (hasBit0 flags))) (baseOf l s (hasBit0 flags) guest vcpu) b (walked (setUse (hasBit0 flags)) p) (countOf b) j s (omega arith) out }) .kept
+      (λ p. record { kept = applied-frame (contextOf l s guest (setUse (hasBit0 flags))) (baseOf l s (hasBit0 flags) guest vcpu) b (walked (setUse (hasBit0 flags)) p) (countOf b) j s (omega arith) out }) .kept
 
   record PartKept (i n : ℕ) (o : Outcome) : Type 0 where
     same : bytesAt (o .store) i n ≡ bytesAt s i n
@@ -132,7 +132,7 @@ module _ (l : Layout) (s : List ℕ) (flags guest vcpu : ℕ) (b : List ℕ) whe
   set-apart plain i n c =
       ap (λ (o : Outcome). bytesAt (o .store) i n) (sym (set-plain l s flags guest vcpu b plain))
       ∙ decided (PartKept i n) s [] setTests setDone (λ f. record { same = refl })
-      (λ p. record { same = beside (contextOf l s (setUse (hasBit0 flags))) (baseOf l s (hasBit0 flags) guest vcpu) b (walked (setUse (hasBit0 flags)) p) s i n (c p) }) .same
+      (λ p. record { same = beside (contextOf l s guest (setUse (hasBit0 flags))) (baseOf l s (hasBit0 flags) guest vcpu) b (walked (setUse (hasBit0 flags)) p) s i n (c p) }) .same
 
   pub set-beside : handsOver flags ≡ false → (i n : ℕ) → Clear (baseOf l s (hasBit0 flags) guest vcpu) (bytesOf (scopeFor (setUse (hasBit0 flags)))) i n → bytesAt (setState l s flags guest vcpu b .store) i n ≡ bytesAt s i n
   set-beside plain i n c = set-apart plain i n (λ p. c)
@@ -167,18 +167,18 @@ module _ (l : Layout) (s : List ℕ) (flags guest vcpu : ℕ) (b : List ℕ) whe
       go false = refl
 
   -- the tests of the target alone
-  target-passed : (usage : Usage) → Passed (targetTests l s (supportedBits (hasBit0 flags)) flags (hasBit0 flags) guest vcpu ++ bufferTests l s usage b) → Passed (targetTests l s (supportedBits (hasBit0 flags)) flags (hasBit0 flags) guest vcpu)
+  target-passed : (usage : Usage) → Passed (targetTests l s (supportedBits (hasBit0 flags)) flags (hasBit0 flags) guest vcpu ++ bufferTests (contextOf l s guest usage) b) → Passed (targetTests l s (supportedBits (hasBit0 flags)) flags (hasBit0 flags) guest vcpu)
   target-passed usage p = (p .0, (p .1 .0, (p .1 .1 .0, (p .1 .1 .1 .0, (p .1 .1 .1 .1 .0, tt)))))
 
-  long-passed : (usage : Usage) → Passed (targetTests l s (supportedBits (hasBit0 flags)) flags (hasBit0 flags) guest vcpu ++ bufferTests l s usage b) → 4 ≤ length b
+  long-passed : (usage : Usage) → Passed (targetTests l s (supportedBits (hasBit0 flags)) flags (hasBit0 flags) guest vcpu ++ bufferTests (contextOf l s guest usage) b) → 4 ≤ length b
   long-passed usage p = long-enough b (badLength b) refl (p .1 .1 .1 .1 .1 .0)
 
   pub all-ready : Sound l → (usage : Usage) → bytesOf (scopeFor usage) ≡ cond (hasBit0 flags) guestBytes slotBytes
-      → Passed (targetTests l s (supportedBits (hasBit0 flags)) flags (hasBit0 flags) guest vcpu ++ bufferTests l s usage b) → AllReady (baseOf l s (hasBit0 flags) guest vcpu) b (length s)
-  all-ready so usage e p = ready-all (contextOf l s usage) (baseOf l s (hasBit0 flags) guest vcpu) (length s) (base-room so usage e (target-passed usage p)) b (long-passed usage p) (walked usage p)
+      → Passed (targetTests l s (supportedBits (hasBit0 flags)) flags (hasBit0 flags) guest vcpu ++ bufferTests (contextOf l s guest usage) b) → AllReady (baseOf l s (hasBit0 flags) guest vcpu) b (length s)
+  all-ready so usage e p = ready-all (contextOf l s guest usage) (baseOf l s (hasBit0 flags) guest vcpu) (length s) (base-room so usage e (target-passed usage p)) b (long-passed usage p) (walked usage p)
 
   abbrev getTests : List (Bool × Fault)
-  getTests = targetTests l s (supportedBits (hasBit0 flags)) flags (hasBit0 flags) guest vcpu ++ bufferTests l s (getUse (hasBit0 flags)) b
+  getTests = targetTests l s (supportedBits (hasBit0 flags)) flags (hasBit0 flags) guest vcpu ++ bufferTests (contextOf l s guest (getUse (hasBit0 flags))) b
 
   record BufferKept (j : ℕ) (o : Outcome) : Type 0 where
     kept : getD (o .buffer) j 0 ≡ getD b j 0

@@ -1,24 +1,17 @@
 -- 02, L12: "From then on, over any calls from a fresh store, each live guest's PVR is 0 or an agreed one; I want that proved." The theorem is
 -- `pvr-agreed`.
-use Prim.Native.Nat.{ℕ, _+_}
+use Prim.Native.Nat.{ℕ}
 use mathlib.Core.Path.{_≡_}
 use mathlib.Core.Logic.{_⊎_}
 use mathlib.Core.Bool.{true}
 use mathlib.Core.List.{List, [], _∷_}
-use Rattle.octets.specs.Bytes.{be}
-use Rattle.elements.specs.declared.Scope.the-variants.{Guest}
-use Rattle.elements.specs.Table.{position}
 use Rattle.rules.specs.Rules.{goodPvr}
 use Rattle.store.specs.declared.Layout.{Layout}
-use Rattle.store.specs.Layout.{guestAt}
 use Rattle.store.specs.Header.{header, live, offered, capabilitiesOf}
 use Rattle.admission.specs.Refusals.{bit0}
+use Rattle.state.specs.State.{pvrOf}
 use Rattle.l0.specs.Calls.{Call, SetCapabilities, SetState}
 use Rattle.promises.specs.Edges.{newGuest, one}
-
--- the PVR of guest g: element 0x0003, of 4 bytes
-abbrev pub pvrOf : Layout → List ℕ → ℕ → ℕ
-pvrOf l s g = be s (guestAt l g + position Guest 0x0003) 4
 
 -- "0 or an agreed one": one that a set would take under these capabilities
 abbrev pub ZeroOrAgreed : ℕ → ℕ → Type 0

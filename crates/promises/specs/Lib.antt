@@ -3,3 +3,4 @@ pub mod Promised
 pub mod Edges
 pub mod Apart
 pub mod Agreed
+pub mod Lists

@@ -69,10 +69,10 @@ inputGiven l s guest vcpu input = inputOf s (baseOf l s false guest vcpu) input
 
 -- Demand 2: "exactly if it holds a bad one": the input holds none; nor does the effect
 abbrev pub InputGood : Layout → List ℕ → ℕ → ℕ → List ℕ → Type 0
-InputGood l s guest vcpu input = AllGood (judged (contextOf l s RunInput) (inputGiven l s guest vcpu input)) (inputGiven l s guest vcpu input)
+InputGood l s guest vcpu input = AllGood (judged (contextOf l s guest RunInput) (inputGiven l s guest vcpu input)) (inputGiven l s guest vcpu input)
 
-abbrev pub EffectGood : Layout → List ℕ → List ℕ → Type 0
-EffectGood l s effect = AllGood (judged (contextOf l s Effect) effect) effect
+abbrev pub EffectGood : Layout → List ℕ → ℕ → List ℕ → Type 0
+EffectGood l s guest effect = AllGood (judged (contextOf l s guest Effect) effect) effect
 
 -- ---- 02, L1: "17 after 5": the tests of giving back before it
 abbrev pub beforeForm : Layout → List ℕ → ℕ → ℕ → List ℕ → List (Bool × Fault)

@@ -4,13 +4,14 @@ use mathlib.Core.Path.{_≡_, refl}
 use mathlib.Core.List.{[], _∷_}
 use Rattle.octets.specs.Bytes.{be}
 use Rattle.elements.specs.Table.{table, find, kindOf}
+use Rattle.elements.specs.Later.{offers}
 use Rattle.rules.specs.Rules.{allows, permits, sizeFits, ruleOf, goodValue}
 use Rattle.gsb.specs.Walk.{judged, walkOn, walk, firstBad}
 use Rattle.render.specs.Text.{ascii, shown}
 use Rattle.render.specs.Listing.{firstLine, verdictText, line, onGood, lines, refusedLine, lastLine, listing, example}
 
 pub as-printed : listing example ≡ ascii "elements 2 bytes 24\n0 4 1003 8 ok\n1 16 0003 4 bad\nanswer 6 index 1 offset 16\n"
-unfolding be table find kindOf allows permits sizeFits ruleOf goodValue judged walkOn walk firstBad shown firstLine verdictText line onGood lines refusedLine lastLine listing
+unfolding be table find kindOf allows offers permits sizeFits ruleOf goodValue judged walkOn walk firstBad shown firstLine verdictText line onGood lines refusedLine lastLine listing
 as-printed = refl
 
 -- "A length of answer 5 prints only `answer 5`."

@@ -11,6 +11,7 @@ use Rattle.answer.specs.declared.Registers.{Registers}
 use Rattle.answer.specs.Answer.{told}
 use Rattle.rules.specs.declared.Usage.the-variants.{ThreadSet}
 use Rattle.rules.specs.declared.Context.{Context}
+use Rattle.elements.specs.declared.Offer.the-variants.{Full}
 use Rattle.gsb.specs.declared.Verdict.{Verdict}
 use Rattle.gsb.specs.declared.Verdict.the-variants.{Good, Faulty}
 use Rattle.gsb.specs.declared.Walked.{Walked}
@@ -20,9 +21,9 @@ use Rattle.render.specs.declared.Rendered.{Rendered}
 use Rattle.render.specs.declared.Rendered.the-variants.{Text, Short}
 use Rattle.render.specs.Text.{ascii, decimal, hex4}
 
--- no thread element's rule looks at the capabilities
+-- no thread element's rule looks at the capabilities; 02, L7: "L11 and the listing" use the list "of 01"
 abbrev pub threadSet : Context
-threadSet = record { usage = ThreadSet; capabilities = 0 }
+threadSet = record { usage = ThreadSet; capabilities = 0; offer = Full }
 
 -- "First line: count and input length."
 unfoldable pub firstLine : List ℕ → List ℕ

@@ -8,6 +8,7 @@ use answer::Fault;
 use answer::Registers;
 use answer::refusal;
 use answer::registers_of;
+use elements::Offer;
 use gsb::Verdict;
 use gsb::Walked;
 use gsb::first_bad;
@@ -84,6 +85,7 @@ pub fn push_lines(b: &[u8], text: &mut [u8], at: usize) -> usize
         let k = Context {
             usage: Usage::ThreadSet,
             capabilities: 0,
+            offer: Offer::Full,
         };
         let verdict = judge(b, offset, k);
         end = push_line(text, end, index, offset, id, size, verdict);
@@ -116,6 +118,7 @@ pub fn push_answer(b: &[u8], text: &mut [u8], at: usize) -> usize
     let k = Context {
         usage: Usage::ThreadSet,
         capabilities: 0,
+        offer: Offer::Full,
     };
     match first_bad(b, k) {
         Walked::Done => push(text, at, b"answer 0\n"),

@@ -1,5 +1,5 @@
 -- The laws of what a call may do with an element. Assumes nothing.
-use mathlib.Core.Path.{_≡_, refl, sym, ap, _∙_}
+use mathlib.Core.Path.{_≡_, refl, sym, ap, ap₂, _∙_}
 use mathlib.Core.Logic.{_⊎_, inl, inr}
 use mathlib.Core.Bool.{Bool, true, false, not, _&&_, _||_, false≢true}
 use mathlib.Core.List.{List}
@@ -9,6 +9,7 @@ use lib.Dec.{leb}
 use borrow.Author.Tests.{leb-true, lt-leb, ne-eqb, eqb-true, not-true}
 use Rattle.elements.specs.declared.Access.the-variants.{ReadWrite}
 use Rattle.elements.specs.declared.Entry.{Entry}
+use Rattle.elements.specs.declared.Offer.{Offer}
 use Rattle.elements.specs.declared.Source.the-variants.{Stored}
 use Rattle.elements.specs.declared.Kind.{Kind}
 use Rattle.elements.specs.declared.Kind.the-variants.{Unlisted, Nop, Listed}
@@ -18,6 +19,7 @@ use Rattle.rules.specs.declared.Usage.{Usage}
 use Rattle.rules.specs.declared.Usage.the-variants.{GuestGet, GuestSet, ThreadGet, ThreadSet, RunInput, Effect}
 use Rattle.rules.specs.declared.Context.{Context}
 use Rattle.elements.specs.Table.{table, below, position, sourceOf, find, sameScope, isStored, kindOf}
+use Rattle.elements.specs.Later.{offers}
 use Rattle.elements.proofs.Table.{T-true, entry-rule, thread-stored}
 use Rattle.elements.specs.Private.{threadKind}
 use Rattle.rules.specs.Private.{ofThread}
@@ -93,11 +95,15 @@ pub permits-cases : (k : Context) (id : ℕ) (kind : Kind) → permits k id kind
 unfolding permits
 permits-cases k id Unlisted e = absurd (false≢true e)
 permits-cases k id Nop e = inl refl
-permits-cases k id (Listed x) e = inr (x, refl, e)
+permits-cases k id (Listed x) e = inr (x, refl, and-left _ _ e)
 
 pub permits-listed : (k : Context) (id : ℕ) (x : Entry) → permits k id (Listed x) ≡ true → allows (k .usage) id x ≡ true
 unfolding permits
-permits-listed k id x e = e
+permits-listed k id x e = and-left _ _ e
+
+pub permits-offered : (k : Context) (id : ℕ) (x : Entry) → permits k id (Listed x) ≡ true → offers (k .offer) id ≡ true
+unfolding permits
+permits-offered k id x e = and-right (allows (k .usage) id x) _ e
 
 same-scope : (s t : Scope) → sameScope s t ≡ true → t ≡ s
 same-scope Guest Guest e = refl
@@ -117,14 +123,16 @@ allows-scope Effect id x e = same-scope Thread (x .scope) (and-left _ _ e)
 pub permits-scope : (k : Context) (id : ℕ) (x : Entry) → permits k id (Listed x) ≡ true → x .scope ≡ scopeFor (k .usage)
 permits-scope k id x e = allows-scope (k .usage) id x (permits-listed k id x e)
 
--- what a run input takes, a thread set takes
-pub run-as-set : (k l : Context) (id : ℕ) (kind : Kind) → k .usage ≡ RunInput → l .usage ≡ ThreadSet
+-- what a run input takes, a thread set takes by the same list
+pub run-as-set : (k l : Context) (id : ℕ) (kind : Kind) → k .usage ≡ RunInput → l .usage ≡ ThreadSet → l .offer ≡ k .offer
     → permits k id kind ≡ true → permits l id kind ≡ true
 unfolding permits allows
-run-as-set k l id Unlisted p q e = e
-run-as-set k l id Nop p q e = refl
-run-as-set k l id (Listed x) p q e =
-    ap (λ (u : Usage). allows u id x) q ∙ and-left _ _ (ap (λ (u : Usage). allows u id x) (sym p) ∙ e)
+run-as-set k l id Unlisted p q o e = e
+run-as-set k l id Nop p q o e = refl
+run-as-set k l id (Listed x) p q o e =
+    ap₂ _&&_
+    (ap (λ (u : Usage). allows u id x) q ∙ and-left _ _ (ap (λ (u : Usage). allows u id x) (sym p) ∙ and-left _ _ e))
+    (ap (λ (f : Offer). offers f id) o ∙ and-right (allows (k .usage) id x) _ e)
 
 -- but not the two run buffers; and an effect takes none of the three that come before the registers
 pub run-not-buffer : (id : ℕ) (x : Entry) → allows RunInput id x ≡ true → between 0x0C00 0x0C01 id ≡ false
@@ -153,18 +161,18 @@ setting-stored Effect id x e s a = thread-stored id x e (allows-scope Effect id 
 
 -- ---- a run input and an effect hold no element with a value rule
 
-abbrev context : Usage → ℕ → Context
-context u c = record { usage = u; capabilities = c }
+abbrev context : Usage → ℕ → Offer → Context
+context u c o = record { usage = u; capabilities = c; offer = o }
 
 -- an ID that the use never permits
 abbrev Barred : Usage → ℕ → Type 0
-Barred u i = (c : ℕ) → permits (context u c) i (kindOf i) ≡ false
+Barred u i = (c : ℕ) (o : Offer) → permits (context u c o) i (kindOf i) ≡ false
 
 barred : (u : Usage) (i : ℕ) → Barred u i → (k : Context) (id : ℕ) → k .usage ≡ u → permits k id (kindOf id) ≡ true → id ≡ i → ⊥
 barred u i f k id p e q =
     false≢true
-    (sym (f (k .capabilities))
-    ∙ ap (λ (v : Usage). permits (context v (k .capabilities)) i (kindOf i)) (sym p)
+    (sym (f (k .capabilities) (k .offer))
+    ∙ ap (λ (v : Usage). permits (context v (k .capabilities) (k .offer)) i (kindOf i)) (sym p)
     ∙ ap (λ (j : ℕ). permits k j (kindOf j)) (sym q)
     ∙ e)
 
@@ -177,12 +185,12 @@ unruled u f g h k id b at p e =
 pub value-run : (k : Context) (id : ℕ) (b : List ℕ) (at : ℕ) → k .usage ≡ RunInput → permits k id (kindOf id) ≡ true
     → goodValue k id b at ≡ true
 unfolding permits allows kindOf find table sourceOf position below
-value-run k id b at p e = unruled RunInput (λ c. refl) (λ c. refl) (λ c. refl) k id b at p e
+value-run k id b at p e = unruled RunInput (λ c o. refl) (λ c o. refl) (λ c o. refl) k id b at p e
 
 pub value-effect : (k : Context) (id : ℕ) (b : List ℕ) (at : ℕ) → k .usage ≡ Effect → permits k id (kindOf id) ≡ true
     → goodValue k id b at ≡ true
 unfolding permits allows kindOf find table sourceOf position below
-value-effect k id b at p e = unruled Effect (λ c. refl) (λ c. refl) (λ c. refl) k id b at p e
+value-effect k id b at p e = unruled Effect (λ c o. refl) (λ c o. refl) (λ c o. refl) k id b at p e
 
 -- ---- what every use of a vCPU permits
 
@@ -193,10 +201,10 @@ and-false false = refl
 beyond : (low high id : ℕ) → high < id → not (between low high id) ≡ true
 beyond low high id h = simp (lt-leb _ _ h, and-false)
 
-pub permits-register : (k : Context) (id n p : ℕ) → true ≡ ofThread (k .usage) → 0x1000 ≤ id
+pub permits-register : (k : Context) (id n p : ℕ) → true ≡ ofThread (k .usage) → 0x1000 ≤ id → offers (k .offer) id ≡ true
     → permits k id (threadKind n ReadWrite p) ≡ true
 unfolding permits allows
-permits-register k id n p t h = go (k .usage) t
+permits-register k id n p t h o = ap₂ _&&_ (go (k .usage) t) o
   where
     go : (u : Usage) → true ≡ ofThread u
         → allows u id (record { size = n; access = ReadWrite; scope = Thread; source = Stored p }) ≡ true

@@ -15,6 +15,7 @@ use Rattle.rules.specs.declared.Usage.{Usage}
 use Rattle.rules.specs.declared.Usage.the-variants.{GuestGet, GuestSet, ThreadGet, ThreadSet, RunInput, Effect}
 use Rattle.rules.specs.declared.Context.{Context}
 use Rattle.elements.specs.Table.{sameScope}
+use Rattle.elements.specs.Later.{offers}
 
 -- from low to high, both included
 abbrev pub between : ℕ → ℕ → ℕ → Bool
@@ -50,11 +51,12 @@ allows ThreadSet id x = sameScope Thread (x .scope) && writable (x .access)
 allows RunInput id x = (sameScope Thread (x .scope) && writable (x .access)) && not (between 0x0C00 0x0C01 id)
 allows Effect id x = sameScope Thread (x .scope) && not (between 0x0C00 0x0C02 id)
 
--- "ID 0x0000 is the NOP: either scope, any size"; an unlisted ID is permitted nowhere.
+-- "ID 0x0000 is the NOP: either scope, any size"; an unlisted ID is permitted nowhere. 02, L7: "It applies to thread get, set, run input and
+-- effect"; the elements of a guest are on both lists.
 unfoldable pub permits : Context → ℕ → Kind → Bool
 permits k id Unlisted = false
 permits k id Nop = true
-permits k id (Listed x) = allows (k .usage) id x
+permits k id (Listed x) = allows (k .usage) id x && offers (k .offer) id
 
 -- "then the size, 7 if not the listed one"; a NOP has any
 unfoldable pub sizeFits : Kind → ℕ → Bool

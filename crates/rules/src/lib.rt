@@ -5,7 +5,9 @@ mod values;
 use elements::Access;
 use elements::Entry;
 use elements::Kind;
+use elements::Offer;
 use elements::Scope;
+use elements::is_offered;
 pub use values::good_input;
 pub use values::good_output;
 pub use values::good_value;
@@ -24,10 +26,11 @@ pub enum Usage {
     Effect,
 }
 
-// All that judging an element depends on beside its bytes: the use, and the capabilities agreed at the call.
+// All that judging an element depends on beside its bytes: the use, the capabilities agreed at the call, and the guest's list.
 pub struct Context {
     pub usage: Usage,
     pub capabilities: u64,
+    pub offer: Offer,
 }
 
 fn in_guest(s: Scope) -> bool
@@ -97,10 +100,11 @@ pub fn permitted(k: Context, id: u16, kind: Kind) -> bool
     ensures { λ r. ⌜ r ≡ permits k id kind ⌝ }
 {
     let usage = k.usage;
+    let offer = k.offer;
     match kind {
         Kind::Unlisted => false,
         Kind::Nop => true,
-        Kind::Listed(x) => allowed(usage, id, x),
+        Kind::Listed(x) => allowed(usage, id, x) & is_offered(offer, id),
     }
 }
 

@@ -16,6 +16,7 @@ use Rattle.answer.specs.declared.RunBuffer.the-variants.{Input, Output}
 use Rattle.answer.specs.declared.Fault.{Fault}
 use Rattle.answer.specs.declared.Fault.the-variants.{Element, Unregistered, Short, Exit, Effect}
 use Rattle.answer.specs.Refusals.{firstOf}
+use Rattle.rules.specs.declared.Context.{Context}
 use Rattle.rules.specs.declared.Usage.the-variants.{RunInput, Effect as InEffect}
 use Rattle.elements.specs.Table.{position, below, table}
 use Rattle.rules.specs.Rules.{goodInput, goodOutput}
@@ -25,9 +26,10 @@ use Rattle.gsb.specs.Walk.{countOf, badLength, firstBad}
 use Rattle.gsb.proofs.Walks.{long-enough}
 use Rattle.store.specs.declared.Layout.{Layout}
 use Rattle.store.specs.Layout.{Sound, small, slotBytes}
-use Rattle.store.specs.Header.{header, capabilitiesOf, slotOf}
+use Rattle.store.specs.Header.{header, slotOf}
 use Rattle.store.proofs.Frame.{formed}
 use Rattle.store.proofs.Search.{both}
+use Rattle.store.proofs.Tests.{live-parts}
 use Rattle.transfer.specs.Transfer.{applied, AllReady}
 use Rattle.transfer.proofs.Moving.{length-applied}
 use Rattle.exits.specs.Exits.{known, outputOf}
@@ -40,11 +42,11 @@ use Rattle.run.specs.declared.RunTarget.the-variants.{Refused as RunRefu
 use Rattle.admission.specs.Refusals.{Outcome, success, refusal, refuse, decide, judgement, Passed}
 use Rattle.admission.specs.Target.{targetTests, baseOf, targetOf}
 use Rattle.state.specs.State.{contextOf, isStopped, faultOf}
-use Rattle.run.specs.Run.{runBits, inputSize, outputSize, lentTests, effectFault, exitTests, runTargetTests, inputOf, contentTests, runTests, cachedTests, cachedGood, ranStore, ran, runVcpu}
+use Rattle.run.specs.Run.{runBits, inputSize, outputSize, lentTests, effectFault, exitTests, runTargetTests, inputOf, contentTests, runTests, ranStore, ran, runVcpu}
 use Rattle.run.specs.Private.{lentGood, exitGood, runTargetOf, contentGood, judgedRun}
 use Rattle.admission.proofs.Judging.{begin-refused, begin-admitted, all-refused, all-admitted, was-refused, was-admitted, judged-passed}
 use Rattle.admission.proofs.Targets.{target-judged, target-found}
-use Rattle.state.proofs.Buffers.{walked-as, ready-as}
+use Rattle.state.proofs.Buffers.{ready-as}
 
 -- ---- the answers of `judge_lent`: where the code reads the sizes
 input-at : (s : List ℕ) (base : ℕ) → inputSize s base ≡ be s (base + 8) 8
@@ -128,47 +130,47 @@ module _ (l : Layout) (s : List ℕ) (flags guest vcpu need inputLength outputLe
         ap (Slot base) (e ∙ sym (input-at s base)) ∙ ap (λ (x : ℕ). Slot x (inputSize s x)) (sym b) ∙ sym (run-target-past ∙ all-admitted RunRefused slotted lents (lent-at ∙ k))
 
 -- ---- the answers of `judge_exit` and `judge_content`
-module _ (l : Layout) (s effect : List ℕ) (exit : ℕ) (x : Bool) (ex : x ≡ known exit) where
+module _ (k : Context) (effect : List ℕ) (exit : ℕ) (x : Bool) (ex : x ≡ known exit) where
   exitBy : Bool → Bool → Walked → Admission
   exitBy a b w = cond (not a) (Refused Exit) (cond b (Refused (Effect (record { index = 0; offset = 0 }))) (cond (isStopped w) (Refused (effectFault w)) Admitted))
 
-  exit-as : (a b : Bool) (w : Walked) → known exit ≡ a → badLength effect ≡ b → firstBad (contextOf l s InEffect) effect ≡ w → exitBy a b w ≡ exitGood l s effect exit
+  exit-as : (a b : Bool) (w : Walked) → known exit ≡ a → badLength effect ≡ b → firstBad k effect ≡ w → exitBy a b w ≡ exitGood k effect exit
   unfolding exitGood exitBy
-  exit-as a b w p q r = sym (ap₂ (λ (y z : Bool). exitBy y z (firstBad (contextOf l s InEffect) effect)) p q ∙ ap (exitBy a b) r)
+  exit-as a b w p q r = sym (ap₂ (λ (y z : Bool). exitBy y z (firstBad k effect)) p q ∙ ap (exitBy a b) r)
 
-  pub exit-unknown : not x ≡ true → Refused Exit ≡ exitGood l s effect exit
+  pub exit-unknown : not x ≡ true → Refused Exit ≡ exitGood k effect exit
   unfolding exitBy
-  exit-unknown h = exit-as false (badLength effect) (firstBad (contextOf l s InEffect) effect) (sym ex ∙ not-true x h) refl refl
+  exit-unknown h = exit-as false (badLength effect) (firstBad k effect) (sym ex ∙ not-true x h) refl refl
 
   module _ (hx : not x ≡ false) (y : Bool) (ey : y ≡ badLength effect) where
-    pub exit-length : y ≡ true → Refused (Effect (record { index = 0; offset = 0 })) ≡ exitGood l s effect exit
+    pub exit-length : y ≡ true → Refused (Effect (record { index = 0; offset = 0 })) ≡ exitGood k effect exit
     unfolding exitBy
-    exit-length h = exit-as true true (firstBad (contextOf l s InEffect) effect) (sym ex ∙ not-false x hx) (sym ey ∙ h) refl
+    exit-length h = exit-as true true (firstBad k effect) (sym ex ∙ not-false x hx) (sym ey ∙ h) refl
 
-    module _ (hy : y ≡ false) (c : ℕ) (k : c ≡ capabilitiesOf (header l s)) (w : Walked) (q : w ≡ firstBad (record { usage = InEffect; capabilities = c }) effect) where
-      pub exit-bad : (bad : Bad) (place : Place) → w ≡ Stopped bad place → Refused (Effect place) ≡ exitGood l s effect exit
+    module _ (hy : y ≡ false) (w : Walked) (q : w ≡ firstBad k effect) where
+      pub exit-bad : (bad : Bad) (place : Place) → w ≡ Stopped bad place → Refused (Effect place) ≡ exitGood k effect exit
       unfolding exitBy
-      exit-bad bad place d = exit-as true false (Stopped bad place) (sym ex ∙ not-false x hx) (sym ey ∙ hy) (walked-as l s InEffect effect c w k q ∙ d)
+      exit-bad bad place d = exit-as true false (Stopped bad place) (sym ex ∙ not-false x hx) (sym ey ∙ hy) (sym q ∙ d)
 
-      pub exit-done : w ≡ Done → Admitted ≡ exitGood l s effect exit
+      pub exit-done : w ≡ Done → Admitted ≡ exitGood k effect exit
       unfolding exitBy
-      exit-done d = exit-as true false Done (sym ex ∙ not-false x hx) (sym ey ∙ hy) (walked-as l s InEffect effect c w k q ∙ d)
+      exit-done d = exit-as true false Done (sym ex ∙ not-false x hx) (sym ey ∙ hy) (sym q ∙ d)
 
-module _ (l : Layout) (s input effect : List ℕ) (exit c : ℕ) (k : c ≡ capabilitiesOf (header l s)) (w : Walked) (q : w ≡ firstBad (record { usage = RunInput; capabilities = c }) input) where
+module _ (l : Layout) (s : List ℕ) (guest : ℕ) (input effect : List ℕ) (exit : ℕ) (k : Context) (is : k ≡ contextOf l s guest RunInput) (w : Walked) (q : w ≡ firstBad k input) where
   contentBy : Walked → Admission
-  contentBy v = cond (isStopped v) (Refused (faultOf v)) (judgement (exitTests l s effect exit))
+  contentBy v = cond (isStopped v) (Refused (faultOf v)) (judgement (exitTests (contextOf l s guest InEffect) effect exit))
 
-  content-as : (v : Walked) → w ≡ v → contentBy v ≡ contentGood l s input effect exit
+  content-as : (v : Walked) → w ≡ v → contentBy v ≡ contentGood l s guest input effect exit
   unfolding contentGood contentBy
-  content-as v d = sym (ap contentBy (walked-as l s RunInput input c w k q ∙ d))
+  content-as v d = sym (ap contentBy (ap (λ (y : Context). firstBad y input) (sym is) ∙ sym q ∙ d))
 
-  pub content-bad : (bad : Bad) (place : Place) → w ≡ Stopped bad place → Refused (Element bad place) ≡ contentGood l s input effect exit
+  pub content-bad : (bad : Bad) (place : Place) → w ≡ Stopped bad place → Refused (Element bad place) ≡ contentGood l s guest input effect exit
   unfolding contentBy
   content-bad bad place d = content-as (Stopped bad place) d
 
-  pub content-exit : (v : Admission) → w ≡ Done → v ≡ exitGood l s effect exit → v ≡ contentGood l s input effect exit
+  pub content-exit : (v : Admission) (m : Context) → w ≡ Done → m ≡ contextOf l s guest InEffect → v ≡ exitGood m effect exit → v ≡ contentGood l s guest input effect exit
   unfolding contentBy exitGood
-  content-exit v d e = e ∙ content-as Done d
+  content-exit v m d i e = e ∙ ap (λ (y : Context). judgement (exitTests y effect exit)) i ∙ content-as Done d
 
 -- ---- back from a run's target
 run-refused-same : (f g : Fault) → RunRefused f ≡ RunRefused g → f ≡ g
@@ -184,15 +186,17 @@ slot-same : {b c m n : ℕ} → Slot b m ≡ Slot c n → (b ≡ c) × (m ≡ n)
 slot-same e = (cc, cc)
 
 -- what the tests 1 to 12 and 16 say of the buffers and of the slot
-pub record RunFound (l : Layout) (s : List ℕ) (base n inputLength outputLength : ℕ) : Type 0 where
+pub record RunFound (l : Layout) (s : List ℕ) (guest base n inputLength outputLength : ℕ) : Type 0 where
   pub long : length s ≡ l .size
   pub room : base + slotBytes ≤ l .size
   pub some : 4 ≤ n
   pub lent : n ≤ inputLength
   pub out : 124 ≤ outputLength
+  pub low : 1 ≤ guest
+  pub high : guest ≤ l .guests
 
 pub run-found : (l : Layout) → Sound l → (s : List ℕ) (flags guest vcpu need inputLength outputLength : ℕ) → Passed (runTargetTests l s flags guest vcpu need inputLength outputLength)
-    → RunFound l s (baseOf l s false guest vcpu) (inputSize s (baseOf l s false guest vcpu)) inputLength outputLength
+    → RunFound l s guest (baseOf l s false guest vcpu) (inputSize s (baseOf l s false guest vcpu)) inputLength outputLength
 unfolding baseOf
 run-found l so s flags guest vcpu need inputLength outputLength p =
     let k : slotOf l (header l s) guest vcpu < l .slots = leb-false _ _ (p .1 .1 .1 .0) in
@@ -206,6 +210,8 @@ run-found l so s flags guest vcpu need inputLength outputLength p =
       some = leb-true _ _ (i .0);
       lent = ltb-false _ _ (or-left _ _ (t .1 .1 .0));
       out = omega (arith, leb-true 124 (outputSize s base) (o .0), ltb-false outputLength (outputSize s base) (t .1 .1 .1 .0));
+      low = live-parts l (header l s) guest (not-false _ (p .1 .1 .0)) .0;
+      high = live-parts l (header l s) guest (not-false _ (p .1 .1 .0)) .1;
     }
   where
     or-left : (a b : Bool) → (a || b) ≡ false → a ≡ false
@@ -217,37 +223,26 @@ module _ (l : Layout) (so : Sound l) (s : List ℕ) (flags guest vcpu need input
   unfolding runTargetOf
   found = was-admitted RunRefused run-refused-same (Slot (baseOf l s false guest vcpu) (inputSize s (baseOf l s false guest vcpu))) run-refused-not (runTargetTests l s flags guest vcpu need inputLength outputLength) (Slot base n) slot-not (sym q ∙ h)
 
-  run-found-is : RunFound l s base n inputLength outputLength
+  run-found-is : RunFound l s guest base n inputLength outputLength
   run-found-is =
       let e = slot-same (found .1) in
       let p = run-found l so s flags guest vcpu need inputLength outputLength (judged-passed (runTargetTests l s flags guest vcpu need inputLength outputLength) (found .0)) in
-      subst (λ (x : ℕ). RunFound l s x n inputLength outputLength) (e .0) (subst (λ (y : ℕ). RunFound l s (baseOf l s false guest vcpu) y inputLength outputLength) (e .1) p)
+      subst (λ (x : ℕ). RunFound l s guest x n inputLength outputLength) (e .0) (subst (λ (y : ℕ). RunFound l s guest (baseOf l s false guest vcpu) y inputLength outputLength) (e .1) p)
 
   pub run-found-long : length s ≡ l .size
   run-found-long = run-found-is .long
+
+  pub run-found-low : 1 ≤ guest
+  run-found-low = run-found-is .low
+
+  pub run-found-high : guest ≤ l .guests
+  run-found-high = run-found-is .high
 
   pub run-found-lends : n ≤ inputLength
   run-found-lends = run-found-is .lent
 
   pub run-found-part : (input part : List ℕ) → length input ≡ inputLength → part ≡ bytesAt input 0 n → 4 ≤ length part
   run-found-part input part e p = omega (arith, ap length p, length-bytesAt input 0 n (omega (arith, run-found-is .lent, e)), run-found-is .some)
-
--- ---- the answers of `judge_cached`
-module _ (l : Layout) (e : l ≡ small) (s : List ℕ) (flags guest vcpu need inputLength outputLength : ℕ) (effect : List ℕ) (exit : ℕ) (a : RunTarget) (q : a ≡ runTargetOf l s flags guest vcpu need inputLength outputLength) where
-  cached-as : judgement (cachedTests l s flags guest vcpu need inputLength outputLength effect exit) ≡ cachedGood small s flags guest vcpu need inputLength outputLength effect exit
-  unfolding cachedGood
-  cached-as = ap (λ (k : Layout). judgement (cachedTests k s flags guest vcpu need inputLength outputLength effect exit)) e
-
-  pub cached-refused : (f : Fault) → a ≡ RunRefused f → Refused f ≡ cachedGood small s flags guest vcpu need inputLength outputLength effect exit
-  unfolding runTargetOf
-  cached-refused f h =
-      let w = was-refused RunRefused run-refused-same (Slot (baseOf l s false guest vcpu) (inputSize s (baseOf l s false guest vcpu))) run-refused-not (runTargetTests l s flags guest vcpu need inputLength outputLength) f (sym q ∙ h) in
-      sym (begin-refused Refused Admitted (runTargetTests l s flags guest vcpu need inputLength outputLength) (exitTests l s effect exit) f w) ∙ cached-as
-
-  pub cached-exit : (so : Sound l) (base n : ℕ) (v : Admission) → a ≡ Slot base n → v ≡ exitGood l s effect exit → v ≡ cachedGood small s flags guest vcpu need inputLength outputLength effect exit
-  unfolding exitGood
-  cached-exit so base n v h w =
-      w ∙ sym (begin-admitted Refused Admitted (runTargetTests l s flags guest vcpu need inputLength outputLength) (exitTests l s effect exit) (found l so s flags guest vcpu need inputLength outputLength a q base n h .0)) ∙ cached-as
 
 -- ---- the answers of `judge_run`
 module _ (l : Layout) (s : List ℕ) (flags guest vcpu : ℕ) (input : List ℕ) (outputLength : ℕ) (effect : List ℕ) (exit : ℕ) (a : RunTarget) (q : a ≡ runTargetOf l s flags guest vcpu 0 (length input) outputLength) where
@@ -258,7 +253,7 @@ module _ (l : Layout) (s : List ℕ) (flags guest vcpu : ℕ) (input : List ℕ)
   earlier = runTargetTests l s flags guest vcpu 0 (length input) outputLength
 
   abbrev contents : List (Bool × Fault)
-  contents = contentTests l s (inputOf s (baseOf l s false guest vcpu) input) effect exit
+  contents = contentTests l s guest (inputOf s (baseOf l s false guest vcpu) input) effect exit
 
   pub run-refused : (f : Fault) → a ≡ RunRefused f → RunRefused f ≡ judgedRun l s flags guest vcpu input outputLength effect exit
   unfolding judgedRun runTargetOf
@@ -273,10 +268,10 @@ module _ (l : Layout) (s : List ℕ) (flags guest vcpu : ℕ) (input : List ℕ)
     unfolding judgedRun
     run-past = begin-admitted RunRefused there earlier contents (run-there .0)
 
-    module _ (part : List ℕ) (p : part ≡ bytesAt input 0 n) (v : Admission) (w : v ≡ contentGood l s part effect exit) where
+    module _ (part : List ℕ) (p : part ≡ bytesAt input 0 n) (v : Admission) (w : v ≡ contentGood l s guest part effect exit) where
       judged-content : judgement contents ≡ v
       unfolding contentGood
-      judged-content = ap (λ (x : List ℕ). judgement (contentTests l s x effect exit)) (ap (bytesAt input 0) (slot-same (run-there .1) .1) ∙ sym p) ∙ sym w
+      judged-content = ap (λ (x : List ℕ). judgement (contentTests l s guest x effect exit)) (ap (bytesAt input 0) (slot-same (run-there .1) .1) ∙ sym p) ∙ sym w
 
       pub run-content : (f : Fault) → v ≡ Refused f → RunRefused f ≡ judgedRun l s flags guest vcpu input outputLength effect exit
       run-content f k = sym (run-past ∙ all-refused RunRefused there contents f (judged-content ∙ k))
@@ -331,12 +326,12 @@ module _ (l : Layout) (s : List ℕ) (flags guest vcpu : ℕ) (input : List ℕ)
     call-known = not-false _ (passed .1 .1 .1 .1 .1 .1 .1 .1 .1 .1 .0)
 
     module _ (so : Sound l) where
-      is-found : RunFound l s base n (length input) outputLength
+      is-found : RunFound l s guest base n (length input) outputLength
       is-found =
           let p = passed in
           let z = slot-same (call-found .1) in
           let y = run-found l so s flags guest vcpu 0 (length input) outputLength (p .0, (p .1 .0, (p .1 .1 .0, (p .1 .1 .1 .0, (p .1 .1 .1 .1 .0, (p .1 .1 .1 .1 .1 .0, (p .1 .1 .1 .1 .1 .1 .0, (p .1 .1 .1 .1 .1 .1 .1 .0, (p .1 .1 .1 .1 .1 .1 .1 .1 .0, tt))))))))) in
-          subst (λ (x : ℕ). RunFound l s x n (length input) outputLength) (z .0) (subst (λ (w : ℕ). RunFound l s (baseOf l s false guest vcpu) w (length input) outputLength) (z .1) y)
+          subst (λ (x : ℕ). RunFound l s guest x n (length input) outputLength) (z .0) (subst (λ (w : ℕ). RunFound l s guest (baseOf l s false guest vcpu) w (length input) outputLength) (z .1) y)
 
       pub call-lends : n ≤ length input
       call-lends = is-found .lent
@@ -349,14 +344,14 @@ module _ (l : Layout) (s : List ℕ) (flags guest vcpu : ℕ) (input : List ℕ)
 
       pub call-input : (part : List ℕ) → part ≡ bytesAt input 0 n → AllReady base part (length s)
       call-input part p =
-          let w : firstBad (contextOf l s RunInput) part ≡ Done = ap (firstBad (contextOf l s RunInput)) (call-part part p) ∙ stopped-not _ (passed .1 .1 .1 .1 .1 .1 .1 .1 .1 .0) in
+          let w : firstBad (contextOf l s guest RunInput) part ≡ Done = ap (firstBad (contextOf l s guest RunInput)) (call-part part p) ∙ stopped-not _ (passed .1 .1 .1 .1 .1 .1 .1 .1 .1 .0) in
           let k : 4 ≤ length part = omega (arith, ap length p, length-bytesAt input 0 n (omega (arith, is-found .lent)), is-found .some) in
-          ready-as (contextOf l s RunInput) base (length s) part w call-room k
+          ready-as (contextOf l s guest RunInput) base (length s) part w call-room k
 
       pub call-effect : AllReady base effect (length s)
       call-effect =
           let t = passed .1 .1 .1 .1 .1 .1 .1 .1 .1 .1 .1 in
-          ready-as (contextOf l s InEffect) base (length s) effect (stopped-not _ (t .1 .0)) call-room (long-enough effect (badLength effect) refl (t .0))
+          ready-as (contextOf l s guest InEffect) base (length s) effect (stopped-not _ (t .1 .0)) call-room (long-enough effect (badLength effect) refl (t .0))
 
 -- the call
 module _ (l : Layout) (e : l ≡ small) (s : List ℕ) (flags guest vcpu : ℕ) (input output effect : List ℕ) (exit outputLength : ℕ) (m : outputLength ≡ length output)

@@ -10,6 +10,7 @@ use Rattle.answer.specs.declared.RunBuffer.the-variants.{Input, Output}
 use Rattle.answer.specs.declared.Fault.{Fault}
 use Rattle.answer.specs.declared.Fault.the-variants.{None, Unregistered, Short, Exit, Effect}
 use Rattle.elements.specs.declared.Scope.the-variants.{Thread}
+use Rattle.rules.specs.declared.Context.{Context}
 use Rattle.rules.specs.declared.Usage.the-variants.{RunInput, Effect as InEffect}
 use Rattle.elements.specs.Table.{position}
 use Rattle.rules.specs.Rules.{goodInput, goodOutput}
@@ -19,8 +20,7 @@ use Rattle.gsb.specs.Walk.{countOf, badLength, firstBad}
 use Rattle.store.specs.declared.Layout.{Layout}
 use Rattle.transfer.specs.Transfer.{applied}
 use Rattle.exits.specs.Exits.{known, outputOf}
-use Rattle.admission.specs.declared.Admission.{Admission}
-use Rattle.admission.specs.Refusals.{Outcome, success, decide, judgement}
+use Rattle.admission.specs.Refusals.{Outcome, success, decide}
 use Rattle.admission.specs.Target.{targetTests, baseOf}
 use Rattle.state.specs.State.{contextOf, isStopped, badElement}
 
@@ -50,11 +50,11 @@ abbrev pub effectFault : Walked → Fault
 effectFault Done = None
 effectFault (Stopped bad place) = Effect place
 
-abbrev pub exitTests : Layout → List ℕ → List ℕ → ℕ → List (Bool × Fault)
-exitTests l s effect exit =
+abbrev pub exitTests : Context → List ℕ → ℕ → List (Bool × Fault)
+exitTests k effect exit =
     (not (known exit), Exit)
     ∷ (badLength effect, Effect (record { index = 0; offset = 0 }))
-    ∷ (isStopped (firstBad (contextOf l s InEffect) effect), effectFault (firstBad (contextOf l s InEffect) effect))
+    ∷ (isStopped (firstBad k effect), effectFault (firstBad k effect))
     ∷ []
 
 -- 1 to 12 and 16
@@ -67,23 +67,14 @@ abbrev pub inputOf : List ℕ → ℕ → List ℕ → List ℕ
 inputOf s base input = bytesAt input 0 (inputSize s base)
 
 -- the input's elements, then 13 and 14
-abbrev pub contentTests : Layout → List ℕ → List ℕ → List ℕ → ℕ → List (Bool × Fault)
-contentTests l s input effect exit = badElement (contextOf l s RunInput) input ∷ exitTests l s effect exit
+abbrev pub contentTests : Layout → List ℕ → ℕ → List ℕ → List ℕ → ℕ → List (Bool × Fault)
+contentTests l s guest input effect exit = badElement (contextOf l s guest RunInput) input ∷ exitTests (contextOf l s guest InEffect) effect exit
 
 -- all of them
 abbrev pub runTests : Layout → List ℕ → ℕ → ℕ → ℕ → List ℕ → ℕ → List ℕ → ℕ → List (Bool × Fault)
 runTests l s flags guest vcpu input outputLength effect exit =
     runTargetTests l s flags guest vcpu 0 (length input) outputLength
-    ++ contentTests l s (inputOf s (baseOf l s false guest vcpu) input) effect exit
-
--- "The L1 cache": all but the input's elements, which the cache writes, `need` bytes, once the rest is judged
-abbrev pub cachedTests : Layout → List ℕ → ℕ → ℕ → ℕ → ℕ → ℕ → ℕ → List ℕ → ℕ → List (Bool × Fault)
-cachedTests l s flags guest vcpu need inputLength outputLength effect exit =
-    runTargetTests l s flags guest vcpu need inputLength outputLength ++ exitTests l s effect exit
-
-unfoldable pub cachedGood : Layout → List ℕ → ℕ → ℕ → ℕ → ℕ → ℕ → ℕ → List ℕ → ℕ → Admission
-cachedGood l s flags guest vcpu need inputLength outputLength effect exit =
-    judgement (cachedTests l s flags guest vcpu need inputLength outputLength effect exit)
+    ++ contentTests l s guest (inputOf s (baseOf l s false guest vcpu) input) effect exit
 
 -- "Input is applied, then the effect"
 unfoldable pub ranStore : ℕ → List ℕ → List ℕ → List ℕ → List ℕ

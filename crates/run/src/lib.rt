@@ -18,14 +18,12 @@ use rules::Context;
 use rules::Usage;
 use rules::good_input;
 use rules::good_output;
+use state::context_of;
 use store::Layout;
-use store::capabilities_of;
-use store::small_layout;
 ghost use mathlib.Core.Path.{_≡_};
 ghost use Prim.Native.Nat.{_+_, _≤_};
 ghost use lib.ListN.{length};
 ghost use Rattle.store.specs.Layout.{Sound, small, slotBytes};
-ghost use Rattle.run.specs.Run.{cachedGood};
 ghost use Rattle.run.specs.Private.{lentGood, exitGood, contentGood, runTargetOf, judgedRun};
 
 // What a run works on: where the vCPU's values start, and how many bytes of the lent input count; or a refusal.
@@ -70,8 +68,8 @@ fn judge_lent(
     Admission::Admitted
 }
 
-// The tests 1 to 12.
-fn run_target_of(
+// The tests 1 to 12 and 16. The L1 cache makes them too, before it writes an input.
+pub fn run_target_of(
     store: &[u8],
     l: Layout,
     flags: u64,
@@ -100,10 +98,9 @@ fn run_target_of(
     }
 }
 
-// 13 and 14.
-fn judge_exit(store: &[u8], l: Layout, effect: &[u8], exit: u64) -> Admission
-    requires { ⌜ Sound l × (length (now store) ≡ l .size) ⌝ }
-    ensures { λ r. ⌜ r ≡ exitGood l (now (store .entry)) (now (effect .entry)) exit ⌝ }
+// 13 and 14; k is the context of an effect.
+pub fn judge_exit(k: Context, effect: &[u8], exit: u64) -> Admission
+    ensures { λ r. ⌜ r ≡ exitGood k (now (effect .entry)) exit ⌝ }
 {
     if !is_known(exit) {
         return Admission::Refused(Fault::Exit);
@@ -114,10 +111,6 @@ fn judge_exit(store: &[u8], l: Layout, effect: &[u8], exit: u64) -> Admission
             offset: 0,
         }));
     }
-    let k = Context {
-        usage: Usage::Effect,
-        capabilities: capabilities_of(store, l),
-    };
     match first_bad(effect, k) {
         Walked::Stopped(_, place) => Admission::Refused(Fault::Effect(place)),
         Walked::Done => Admission::Admitted,
@@ -125,19 +118,22 @@ fn judge_exit(store: &[u8], l: Layout, effect: &[u8], exit: u64) -> Admission
 }
 
 // The input's elements, then 13 and 14.
-fn judge_content(store: &[u8], l: Layout, input: &[u8], effect: &[u8], exit: u64) -> Admission
-    requires { ⌜ Sound l × (length (now store) ≡ l .size) × (4 ≤ length (now input)) ⌝ }
-    ensures { λ r. ⌜ r ≡ contentGood l (now (store .entry)) (now (input .entry)) (now (effect .entry)) exit ⌝ }
+fn judge_content(
+    store: &[u8],
+    l: Layout,
+    guest: usize,
+    input: &[u8],
+    effect: &[u8],
+    exit: u64,
+) -> Admission
+    requires { ⌜ Sound l × (length (now store) ≡ l .size) × (1 ≤ guest) × (guest ≤ l .guests) × (4 ≤ length (now input)) ⌝ }
+    ensures { λ r. ⌜ r ≡ contentGood l (now (store .entry)) guest (now (input .entry)) (now (effect .entry)) exit ⌝ }
 {
-    let k = Context {
-        usage: Usage::RunInput,
-        capabilities: capabilities_of(store, l),
-    };
-    match first_bad(input, k) {
+    match first_bad(input, context_of(store, l, guest, Usage::RunInput)) {
         Walked::Stopped(bad, place) => return Admission::Refused(Fault::Element(bad, place)),
         Walked::Done => {}
     }
-    judge_exit(store, l, effect, exit)
+    judge_exit(context_of(store, l, guest, Usage::Effect), effect, exit)
 }
 
 // All the tests of a run.
@@ -159,42 +155,11 @@ pub fn judge_run(
     match target {
         RunTarget::Refused(fault) => RunTarget::Refused(fault),
         RunTarget::Slot(base, size) => {
-            let content = judge_content(store, l, first_bytes(input, size), effect, exit);
+            let content = judge_content(store, l, guest, first_bytes(input, size), effect, exit);
             match content {
                 Admission::Refused(fault) => RunTarget::Refused(fault),
                 Admission::Admitted => RunTarget::Slot(base, size),
             }
         }
-    }
-}
-
-// All the tests of a run but those of the input's elements: the L1 cache writes these itself, `need` bytes, once the rest is good.
-pub fn judge_cached(
-    store: &[u8],
-    flags: u64,
-    guest: u64,
-    vcpu: u64,
-    need: usize,
-    input_len: usize,
-    output_len: usize,
-    effect: &[u8],
-    exit: u64,
-) -> Admission
-    ensures { λ r. ⌜ r ≡ cachedGood small (now (store .entry)) flags guest vcpu need «input_len» «output_len» (now (effect .entry)) exit ⌝ }
-{
-    let l = small_layout();
-    let target = run_target_of(
-        store,
-        l,
-        flags,
-        guest as usize,
-        vcpu as usize,
-        need,
-        input_len,
-        output_len,
-    );
-    match target {
-        RunTarget::Refused(fault) => Admission::Refused(fault),
-        RunTarget::Slot(_, _) => judge_exit(store, l, effect, exit),
     }
 }

@@ -1,6 +1,7 @@
 -- What private functions give: the parts of get state and set state past the target.
 use Prim.Native.Nat.{ℕ}
 use mathlib.Core.List.{List, []}
+use Rattle.rules.specs.declared.Context.{Context}
 use Rattle.rules.specs.declared.Usage.{Usage}
 use Rattle.rules.specs.declared.Usage.the-variants.{GuestGet, GuestSet, ThreadGet, ThreadSet, RunInput, Effect}
 use Rattle.gsb.specs.Walk.{countOf}
@@ -13,14 +14,14 @@ use Rattle.store.specs.Header.{header, isTaken}
 use Rattle.state.specs.HandOver.{takeTests, takeFrom, giveTests, giveTo}
 use Rattle.state.specs.State.{bufferTests, fillWith}
 
-unfoldable pub bufferGood : Layout → List ℕ → Usage → List ℕ → Admission
-bufferGood l s usage b = judgement (bufferTests l s usage b)
+unfoldable pub bufferGood : Context → List ℕ → Admission
+bufferGood k b = judgement (bufferTests k b)
 
-unfoldable pub setAt : Layout → List ℕ → ℕ → Usage → List ℕ → Outcome
-setAt l s base usage b = decide s [] (bufferTests l s usage b) (accept 0 (applied base b (countOf b) s))
+unfoldable pub setAt : List ℕ → ℕ → Context → List ℕ → Outcome
+setAt s base k b = decide s [] (bufferTests k b) (accept 0 (applied base b (countOf b) s))
 
-unfoldable pub getAt : Layout → List ℕ → ℕ → Usage → List ℕ → Outcome
-getAt l s base usage b = decide s b (bufferTests l s usage b) (fillWith s base b)
+unfoldable pub getAt : List ℕ → ℕ → Context → List ℕ → Outcome
+getAt s base k b = decide s b (bufferTests k b) (fillWith s base b)
 
 -- how many bytes a use's values take, from their start
 abbrev pub bytesFor : Usage → ℕ

@@ -10,16 +10,19 @@ use answer::Answer;
 use answer::Fault;
 use answer::refusal;
 use answer::success;
+use elements::offer_of;
 use gsb::Walked;
 use gsb::bad_length;
 use gsb::first_bad;
 use hand_over::give_vcpu;
 use hand_over::take_vcpu;
+use octets::get32;
 use rules::Context;
 use rules::Usage;
 pub use single::get_element;
 use store::Layout;
 use store::capabilities_of;
+use store::guest_at;
 use store::small_layout;
 use transfer::apply;
 use transfer::fill;
@@ -30,7 +33,7 @@ ghost use lib.ListN.{length};
 ghost use Rattle.rules.specs.declared.Usage.the-variants.{ThreadGet};
 ghost use Rattle.store.specs.Layout.{Sound, small};
 ghost use Rattle.admission.specs.Refusals.{Outcome, hasBit0};
-ghost use Rattle.state.specs.State.{supportedBits, setUse, setElements, setState, getUse, getElements, getState};
+ghost use Rattle.state.specs.State.{contextOf, supportedBits, setUse, setElements, setState, getUse, getElements, getState};
 ghost use Rattle.state.specs.Private.{bufferGood, setAt, getAt, bytesFor};
 
 // Guest-wide.
@@ -39,18 +42,26 @@ const BIT_0: u64 = 0x8000_0000_0000_0000;
 // A vCPU is handed over.
 const BIT_1: u64 = 0x4000_0000_0000_0000;
 
+// What judging a buffer of a call on a live guest depends on. 0x0003, the PVR, stands first in a guest's values.
+pub fn context_of(store: &[u8], l: Layout, guest: usize, usage: Usage) -> Context
+    requires { ⌜ Sound l × (length (now store) ≡ l .size) × (1 ≤ guest) × (guest ≤ l .guests) ⌝ }
+    ensures { λ r. ⌜ r ≡ contextOf l (now (store .entry)) guest usage ⌝ }
+{
+    let pvr = get32(store, guest_at(l, guest));
+    Context {
+        usage,
+        capabilities: capabilities_of(store, l),
+        offer: offer_of(pvr),
+    }
+}
+
 // 5, then the elements.
-fn judge_buffer(store: &[u8], l: Layout, usage: Usage, buffer: &[u8]) -> Admission
-    requires { ⌜ Sound l × (length (now store) ≡ l .size) ⌝ }
-    ensures { λ r. ⌜ r ≡ bufferGood l (now (store .entry)) usage (now (buffer .entry)) ⌝ }
+fn judge_buffer(k: Context, buffer: &[u8]) -> Admission
+    ensures { λ r. ⌜ r ≡ bufferGood k (now (buffer .entry)) ⌝ }
 {
     if bad_length(buffer) {
         return Admission::Refused(Fault::Length);
     }
-    let k = Context {
-        usage,
-        capabilities: capabilities_of(store, l),
-    };
     match first_bad(buffer, k) {
         Walked::Stopped(bad, place) => Admission::Refused(Fault::Element(bad, place)),
         Walked::Done => Admission::Admitted,
@@ -83,11 +94,11 @@ fn set_use(wide: bool) -> Usage
     Usage::ThreadSet
 }
 
-fn set_at(store: &mut [u8], l: Layout, base: usize, usage: Usage, buffer: &[u8]) -> Answer
-    requires { ⌜ Sound l × (length (now store) ≡ l .size) × (base + bytesFor usage ≤ l .size) ⌝ }
-    ensures { λ r. ⌜ _≡_ {A = Outcome} (record { answer = r; store = now (store .exit); buffer = [] }) (setAt l (now (store .entry)) base usage (now (buffer .entry))) ⌝ }
+fn set_at(store: &mut [u8], base: usize, k: Context, buffer: &[u8]) -> Answer
+    requires { ⌜ base + bytesFor (k .usage) ≤ length (now store) ⌝ }
+    ensures { λ r. ⌜ _≡_ {A = Outcome} (record { answer = r; store = now (store .exit); buffer = [] }) (setAt (now (store .entry)) base k (now (buffer .entry))) ⌝ }
 {
-    match judge_buffer(store, l, usage, buffer) {
+    match judge_buffer(k, buffer) {
         Admission::Refused(fault) => return refusal(fault),
         Admission::Admitted => {}
     }
@@ -104,7 +115,10 @@ fn set_elements(store: &mut [u8], flags: u64, guest: u64, vcpu: u64, buffer: &[u
     let target = small_target(store, l, bits, flags, wide, guest as usize, vcpu as usize);
     match target {
         Target::Refused(fault) => refusal(fault),
-        Target::At(base) => set_at(store, l, base, set_use(wide), buffer),
+        Target::At(base) => {
+            let k = context_of(store, l, guest as usize, set_use(wide));
+            set_at(store, base, k, buffer)
+        }
     }
 }
 
@@ -127,11 +141,11 @@ fn get_use(wide: bool) -> Usage
     Usage::ThreadGet
 }
 
-fn get_at(store: &[u8], l: Layout, base: usize, usage: Usage, buffer: &mut [u8]) -> Answer
-    requires { ⌜ Sound l × (length (now store) ≡ l .size) × (base + bytesFor usage ≤ l .size) ⌝ }
-    ensures { λ r. ⌜ _≡_ {A = Outcome} (record { answer = r; store = now (store .entry); buffer = now (buffer .exit) }) (getAt l (now (store .entry)) base usage (now (buffer .entry))) ⌝ }
+fn get_at(store: &[u8], base: usize, k: Context, buffer: &mut [u8]) -> Answer
+    requires { ⌜ base + bytesFor (k .usage) ≤ length (now store) ⌝ }
+    ensures { λ r. ⌜ _≡_ {A = Outcome} (record { answer = r; store = now (store .entry); buffer = now (buffer .exit) }) (getAt (now (store .entry)) base k (now (buffer .entry))) ⌝ }
 {
-    match judge_buffer(store, l, usage, buffer) {
+    match judge_buffer(k, buffer) {
         Admission::Refused(fault) => return refusal(fault),
         Admission::Admitted => {}
     }
@@ -148,7 +162,10 @@ fn get_elements(store: &[u8], flags: u64, guest: u64, vcpu: u64, buffer: &mut [u
     let target = small_target(store, l, bits, flags, wide, guest as usize, vcpu as usize);
     match target {
         Target::Refused(fault) => refusal(fault),
-        Target::At(base) => get_at(store, l, base, get_use(wide), buffer),
+        Target::At(base) => {
+            let k = context_of(store, l, guest as usize, get_use(wide));
+            get_at(store, base, k, buffer)
+        }
     }
 }
 

@@ -11,6 +11,7 @@ ghost use mathlib.Core.Bool.{true};
 ghost use Prim.Native.Nat.{_≤_, _<_};
 ghost use lib.ListN.{length};
 ghost use Rattle.octets.specs.Bytes.{put};
+ghost use Rattle.elements.specs.declared.Offer.the-variants.{Full};
 ghost use Rattle.gsb.specs.Message.{elementsBytes, message};
 ghost use Rattle.exits.specs.Exits.{rowBytes, valued};
 ghost use Rattle.l1.specs.Marks.{goodCache};
@@ -38,6 +39,9 @@ fn word_bytes(marks: &[u64], k: usize) -> usize
     ensures { λ r. ⌜ (r ≡ wordBytes (isChanged (now (marks .entry))) k) × (r ≤ 2560) ⌝ }
 {
     let word = marks[3 + k];
+    if word == 0 {
+        return 0;
+    }
     8 * u64::count_ones(word & FOURS[k]) as usize
         + 12 * u64::count_ones(word & EIGHTS[k]) as usize
         + 20 * u64::count_ones(word & SIXTEENS[k]) as usize
@@ -66,7 +70,7 @@ fn put_changed(values: &[u8], marks: &[u64], input: &mut [u8])
 }
 
 pub fn put_input(values: &[u8], marks: &[u64], input: &mut [u8])
-    requires { ⌜ (goodCache (record { values = now values; marks = now marks }) ≡ true) × (length (message (pending (record { values = now values; marks = now marks }))) ≤ length (now input)) ⌝ }
+    requires { ⌜ (goodCache Full (record { values = now values; marks = now marks }) ≡ true) × (length (message (pending (record { values = now values; marks = now marks }))) ≤ length (now input)) ⌝ }
     ensures { λ _. ⌜ now (input .exit) ≡ put (now (input .entry)) 0 (message (pending (record { values = now (values .entry); marks = now (marks .entry) }))) ⌝ }
 {
     put32(input, 0, changed_count(marks));

@@ -4,8 +4,8 @@ use borrow.Author.Needs.{needs}
 use Rattle.run.proofs.judge_content.Statement.{statement}
 use Rattle.run.proofs.judge_content.Tie as tie
 
-capabilities-of-requires : tie.Need-capabilities-of-requires
-capabilities-of-requires c κs = search needs
+context-of-requires : tie.Need-context-of-requires
+context-of-requires c κs = search needs
 
 first-bad-requires : tie.Need-first-bad-requires
 first-bad-requires c κs = search needs
@@ -19,6 +19,9 @@ returns c = search (needs, content-bad)
 enum-told : tie.Need-enum-told
 enum-told c = search needs
 
+context-of-requires-2 : tie.Need-context-of-requires-2
+context-of-requires-2 c κs = search needs
+
 judge-exit-requires : tie.Need-judge-exit-requires
 judge-exit-requires c κs = search needs
 
@@ -29,10 +32,11 @@ pub judge-content-spec : {M : Type 1} → statement M
 judge-content-spec =
     tie.close
     (tie.spec
-    capabilities-of-requires
+    context-of-requires
     first-bad-requires
     enum-known-bad
     returns
     enum-told
+    context-of-requires-2
     judge-exit-requires
     returns-2)

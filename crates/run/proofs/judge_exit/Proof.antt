@@ -17,9 +17,6 @@ bad-length-requires c κs = search needs
 returns-2 : tie.Need-returns-2
 returns-2 c = search (needs, exit-length)
 
-capabilities-of-requires : tie.Need-capabilities-of-requires
-capabilities-of-requires c κs = search needs
-
 first-bad-requires : tie.Need-first-bad-requires
 first-bad-requires c κs = search (needs, long-enough)
 
@@ -43,7 +40,6 @@ judge-exit-spec =
     returns
     bad-length-requires
     returns-2
-    capabilities-of-requires
     first-bad-requires
     enum-known-place
     enum-told

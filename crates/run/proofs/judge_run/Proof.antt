@@ -1,6 +1,6 @@
 -- By the target, then by the contents (`run-..`).
 use Rattle.store.proofs.Small.{small-sound}
-use Rattle.run.proofs.Runs.{run-found-lends, run-found-long, run-found-part, run-refused, run-content, run-slot}
+use Rattle.run.proofs.Runs.{run-found-lends, run-found-long, run-found-low, run-found-high, run-found-part, run-refused, run-content, run-slot}
 use borrow.Author.Needs.{needs}
 use Rattle.run.proofs.judge_run.Statement.{statement}
 use Rattle.run.proofs.judge_run.Tie as tie
@@ -18,7 +18,13 @@ first-bytes-requires : tie.Need-first-bytes-requires
 first-bytes-requires c κs = search (needs, run-found-lends, small-sound)
 
 judge-content-requires : tie.Need-judge-content-requires
-judge-content-requires c κs = (search (needs, small-sound), search (needs, run-found-long, small-sound), search (needs, run-found-part, small-sound))
+judge-content-requires c κs = (
+  search (needs, small-sound),
+  search (needs, run-found-long, small-sound),
+  search (needs, run-found-low, small-sound),
+  search (needs, run-found-high, small-sound),
+  search (needs, run-found-part, small-sound),
+)
 
 enum-known-content : tie.Need-enum-known-content
 enum-known-content c = search needs

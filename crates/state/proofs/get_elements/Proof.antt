@@ -1,6 +1,6 @@
 -- By the target (`get-turned`, `get-found`).
 use Rattle.store.proofs.Small.{small-sound}
-use Rattle.admission.proofs.Targets.{held-size, held-room}
+use Rattle.admission.proofs.Targets.{found-low, found-high, held-size, held-room}
 use Rattle.state.proofs.Buffers.{get-room, get-turned, get-found}
 use borrow.Author.Needs.{needs}
 use Rattle.state.proofs.get_elements.Statement.{statement}
@@ -30,8 +30,11 @@ enum-known-target-2 c = search needs
 get-use-requires : tie.Need-get-use-requires
 get-use-requires c κs = search needs
 
+context-of-requires : tie.Need-context-of-requires
+context-of-requires c κs = (search (needs, small-sound), search (needs, held-size), search (needs, found-low), search (needs, found-high))
+
 get-at-requires : tie.Need-get-at-requires
-get-at-requires c κs = (search (needs, small-sound), search (needs, held-size), search (needs, get-room, held-room))
+get-at-requires c κs = search (needs, get-room, held-size, held-room)
 
 returns : tie.Need-returns
 returns c = search (needs, get-turned)
@@ -54,6 +57,7 @@ get-elements-spec =
     refusal-requires
     enum-known-target-2
     get-use-requires
+    context-of-requires
     get-at-requires
     returns
     same-length

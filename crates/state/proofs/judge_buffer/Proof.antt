@@ -11,9 +11,6 @@ bad-length-requires c κs = search needs
 returns : tie.Need-returns
 returns c = search (needs, buffer-length)
 
-capabilities-of-requires : tie.Need-capabilities-of-requires
-capabilities-of-requires c κs = search needs
-
 first-bad-requires : tie.Need-first-bad-requires
 first-bad-requires c κs = search (needs, long-enough)
 
@@ -35,7 +32,6 @@ judge-buffer-spec =
     (tie.spec
     bad-length-requires
     returns
-    capabilities-of-requires
     first-bad-requires
     enum-known-bad
     enum-told

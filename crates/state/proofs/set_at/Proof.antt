@@ -13,9 +13,6 @@ enum-known-fault c = search needs
 refusal-requires : tie.Need-refusal-requires
 refusal-requires c κs = search needs
 
-same-length : tie.Need-same-length
-same-length c = search needs
-
 returns : tie.Need-returns
 returns c = search (needs, set-bad)
 
@@ -28,8 +25,8 @@ apply-requires c κs = search (needs, ready)
 success-requires : tie.Need-success-requires
 success-requires c κs = search needs
 
-same-length-2 : tie.Need-same-length-2
-same-length-2 c = search needs
+same-length : tie.Need-same-length
+same-length c = search needs
 
 returns-2 : tie.Need-returns-2
 returns-2 c = search (needs, set-done)
@@ -41,10 +38,9 @@ set-at-spec =
     judge-buffer-requires
     enum-known-fault
     refusal-requires
-    same-length
     returns
     enum-told
     apply-requires
     success-requires
-    same-length-2
+    same-length
     returns-2)

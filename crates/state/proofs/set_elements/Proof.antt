@@ -1,6 +1,6 @@
 -- By the target (`set-turned`, `set-found`).
 use Rattle.store.proofs.Small.{small-sound}
-use Rattle.admission.proofs.Targets.{held-size, held-room}
+use Rattle.admission.proofs.Targets.{found-low, found-high, held-size, held-room}
 use Rattle.state.proofs.Buffers.{set-room, set-turned, set-found}
 use borrow.Author.Needs.{needs}
 use Rattle.state.proofs.set_elements.Statement.{statement}
@@ -30,8 +30,11 @@ enum-known-target-2 c = search needs
 set-use-requires : tie.Need-set-use-requires
 set-use-requires c κs = search needs
 
+context-of-requires : tie.Need-context-of-requires
+context-of-requires c κs = (search (needs, small-sound), search (needs, held-size), search (needs, found-low), search (needs, found-high))
+
 set-at-requires : tie.Need-set-at-requires
-set-at-requires c κs = (search (needs, small-sound), search (needs, held-size), search (needs, set-room, held-room))
+set-at-requires c κs = search (needs, set-room, held-size, held-room)
 
 same-length : tie.Need-same-length
 same-length c = search needs
@@ -57,6 +60,7 @@ set-elements-spec =
     refusal-requires
     enum-known-target-2
     set-use-requires
+    context-of-requires
     set-at-requires
     same-length
     returns

@@ -7,11 +7,11 @@ use Rattle.drill.proofs.cached.turns.Statement.{statement}
 use Rattle.drill.proofs.cached.turns.Tie as tie
 
 abbrev Inv-loop : tie.InvT-loop
-Inv-loop store₀ values₀ marks₀ seen₀ x₀ i₀ store values marks seen x i =
+Inv-loop store₀ values₀ marks₀ pvr seen₀ x₀ i₀ store values marks seen x i =
     (i ≤ 600) × (length store ≡ length store₀) × (length values ≡ length values₀) × (length marks ≡ length marks₀)
 
 abbrev μ-loop : tie.MeasureT-loop
-μ-loop store₀ values₀ marks₀ seen₀ x₀ i₀ store values marks seen x i = 600 - i
+μ-loop store₀ values₀ marks₀ pvr seen₀ x₀ i₀ store values marks seen x i = 600 - i
 
 loop-holds : tie.Need-loop-holds Inv-loop μ-loop
 loop-holds c = search needs

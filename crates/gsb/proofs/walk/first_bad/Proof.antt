@@ -11,10 +11,10 @@ use Rattle.gsb.proofs.walk.first_bad.Statement.{statement}
 use Rattle.gsb.proofs.walk.first_bad.Tie as tie
 
 abbrev Inv-walk : tie.InvT-walk
-Inv-walk b k count room at₀ i₀ at i = (i ≤ count) × (at ≤ length b) × (firstBad k b ≡ walk (judged k b) (count - i) i at)
+Inv-walk b k count offer room at₀ i₀ at i = (i ≤ count) × (at ≤ length b) × (firstBad k b ≡ walk (judged k b) (count - i) i at)
 
 abbrev μ-walk : tie.MeasureT-walk
-μ-walk b k count room at₀ i₀ at i = count - i
+μ-walk b k count offer room at₀ i₀ at i = count - i
 
 get32-requires : tie.Need-get32-requires Inv-walk μ-walk
 get32-requires c κs = search needs

@@ -7,13 +7,13 @@ use Rattle.gsb.proofs.walk.skip.Statement.{statement}
 use Rattle.gsb.proofs.walk.skip.Tie as tie
 
 abbrev Inv-loop : tie.InvT-loop
-Inv-loop b count room at₀ i₀ at i = (i₀ ≤ i) × (i ≤ count) × (at ≤ length b) × Left b count room (record { index = i₀; offset = at₀ }) i at
+Inv-loop b count room offer at₀ i₀ at i = (i₀ ≤ i) × (i ≤ count) × (at ≤ length b) × Left b count room offer (record { index = i₀; offset = at₀ }) i at
 
 abbrev μ-loop : tie.MeasureT-loop
-μ-loop b count room at₀ i₀ at i = count - i
+μ-loop b count room offer at₀ i₀ at i = count - i
 
 loop-holds : tie.Need-loop-holds Inv-loop μ-loop
-loop-holds c = (search needs, search needs, search needs, left-start _ _ _ _)
+loop-holds c = (search needs, search needs, search needs, left-start _ _ _ _ _)
 
 quick-requires : tie.Need-quick-requires Inv-loop μ-loop
 quick-requires c κs = search needs

@@ -1,11 +1,14 @@
 -- By the tests.
-use Rattle.l1.proofs.Values.{admitted-values, admitted-marks, admitted-size, admitted-good, admitted-cell}
+use Rattle.l1.proofs.Values.{admitted-values, admitted-marks, admitted-size, admitted-good, admitted-cell, readable-full}
 use Rattle.l1.proofs.Reading.{read-bad, read-good}
 use Rattle.admission.specs.declared.Admission.the-variants.{Admitted}
 use mathlib.Core.Path.{_≡_}
 use borrow.Author.Needs.{needs}
 use Rattle.l1.proofs.cache_read.read.Statement.{statement}
 use Rattle.l1.proofs.cache_read.read.Tie as tie
+
+offer-of-requires : tie.Need-offer-of-requires
+offer-of-requires c κs = search needs
 
 readable-cell-requires : tie.Need-readable-cell-requires
 readable-cell-requires c κs = search needs
@@ -39,7 +42,7 @@ read-value-requires c κs =
     let e = c .before .before .before .before .before .before .before .before .before .readable-cell .ensures in
     let q = c .before .before .before .before .before .judge-element .ensures in
     let a : c .before .before .before .before .before .judge-element .result ≡ Admitted = search needs in
-    (admitted-good _ _ _ _ _ _ e _ q a, admitted-values _ _ _ _ _ _ e _ q a, admitted-marks _ _ _ _ _ _ e _ q a, admitted-size _ _ _ _ _ _ e _ q a, admitted-cell _ _ _ _ _ _ e _ q a)
+    (readable-full _ _ (admitted-good _ _ _ _ _ _ _ e _ q a), admitted-values _ _ _ _ _ _ _ e _ q a, admitted-marks _ _ _ _ _ _ _ e _ q a, admitted-size _ _ _ _ _ _ _ e _ q a, admitted-cell _ _ _ _ _ _ _ e _ q a)
 
 same-length-4 : tie.Need-same-length-4
 same-length-4 c = search needs
@@ -57,6 +60,7 @@ pub read-spec : {M : Type 1} → statement M
 read-spec =
     tie.close
     (tie.spec
+    offer-of-requires
     readable-cell-requires
     judge-element-requires
     enum-known-fault

@@ -4,6 +4,9 @@ use borrow.Author.Needs.{needs}
 use Rattle.l1.proofs.cache_write.write.Statement.{statement}
 use Rattle.l1.proofs.cache_write.write.Tie as tie
 
+offer-of-requires : tie.Need-offer-of-requires
+offer-of-requires c κs = search needs
+
 input-cell-requires : tie.Need-input-cell-requires
 input-cell-requires c κs = search needs
 
@@ -47,6 +50,7 @@ pub write-spec : {M : Type 1} → statement M
 write-spec =
     tie.close
     (tie.spec
+    offer-of-requires
     input-cell-requires
     judge-element-requires
     enum-known-fault

@@ -5,6 +5,9 @@ use borrow.Author.Needs.{needs}
 use Rattle.l1.proofs.caches.word_good.Statement.{statement}
 use Rattle.l1.proofs.caches.word_good.Tie as tie
 
+inputs-of-requires : tie.Need-inputs-of-requires
+inputs-of-requires c κs = search needs
+
 mul-valid : tie.Need-mul-valid
 mul-valid c = search needs
 
@@ -33,15 +36,15 @@ array-read-unfit : tie.Need-array-read-unfit
 array-read-unfit c = search needs
 
 returns : tie.Need-returns
-returns c =
-    let g = c .shared-slice-known2 .given in
-    let a = c .before .before .args in
-    word-tells (a .marks .now) (a .k) (search needs) (g (a .k) .fits) (g (3 + a .k) .fits)
+returns c = let g = c .shared-slice-known3 .given in
+    let a = c .before .before .before .before .args in
+    word-tells _ (a .marks .now) (a .k) (search needs) _ (c .before .before .inputs-of .ensures) (g (a .k) .fits) (g (3 + a .k) .fits)
 
 pub word-good-spec : {M : Type 1} → statement M
 word-good-spec =
     tie.close
     (tie.spec
+    inputs-of-requires
     mul-valid
     shared-slice-read-valid
     add-changed

@@ -1,6 +1,8 @@
--- By the target; a buffer of one element that a get permits is good (`one-..`).
+-- By the target (`one-turned`, `one-got`).
 use Rattle.store.proofs.Small.{small-sound}
-use Rattle.state.proofs.Elements.{one-number, one-fits, one-from, one-to, one-turned, one-kept, one-found, one-value}
+use Rattle.admission.proofs.Targets.{found-low, found-high, held-size, held-vcpu}
+use Rattle.state.proofs.Buffers.{context-use}
+use Rattle.state.proofs.Elements.{one-turned, one-kept, one-got, one-bytes}
 use borrow.Author.Needs.{needs}
 use Rattle.state.proofs.single.get_element.Statement.{statement}
 use Rattle.state.proofs.single.get_element.Tie as tie
@@ -8,8 +10,8 @@ use Rattle.state.proofs.single.get_element.Tie as tie
 small-layout-requires : tie.Need-small-layout-requires
 small-layout-requires c κs = search needs
 
-target-of-requires : tie.Need-target-of-requires
-target-of-requires c κs = search (needs, small-sound)
+small-target-requires : tie.Need-small-target-requires
+small-target-requires c κs = search needs
 
 enum-known-target : tie.Need-enum-known-target
 enum-known-target c = search needs
@@ -20,20 +22,11 @@ refusal-requires c κs = search needs
 enum-known-target-2 : tie.Need-enum-known-target-2
 enum-known-target-2 c = search needs
 
-number-of-requires : tie.Need-number-of-requires
-number-of-requires c κs = search needs
+context-of-requires : tie.Need-context-of-requires
+context-of-requires c κs = (search (needs, small-sound), search (needs, held-size), search (needs, found-low), search (needs, found-high))
 
-thread-element-requires : tie.Need-thread-element-requires
-thread-element-requires c κs = search (needs, one-number)
-
-add-copy : tie.Need-add-copy
-add-copy c = search (needs, one-fits)
-
-copy-requires : tie.Need-copy-requires
-copy-requires c κs = (search (needs, one-from), search (needs, one-to))
-
-success-requires : tie.Need-success-requires
-success-requires c κs = search needs
+get-one-requires : tie.Need-get-one-requires
+get-one-requires c κs = (search needs, (search (needs, context-use), search (needs, held-vcpu)))
 
 returns : tie.Need-returns
 returns c = (search (needs, one-turned), search (needs, one-kept))
@@ -42,22 +35,19 @@ same-length : tie.Need-same-length
 same-length c = search needs
 
 returns-2 : tie.Need-returns-2
-returns-2 c = (search (needs, one-found), search (needs, one-value))
+returns-2 c = (search (needs, one-got), search (needs, one-bytes))
 
 pub get-element-spec : {M : Type 1} → statement M
 get-element-spec =
     tie.close
     (tie.spec
     small-layout-requires
-    target-of-requires
+    small-target-requires
     enum-known-target
     refusal-requires
     enum-known-target-2
-    number-of-requires
-    thread-element-requires
-    add-copy
-    copy-requires
-    success-requires
+    context-of-requires
+    get-one-requires
     returns
     same-length
     returns-2)

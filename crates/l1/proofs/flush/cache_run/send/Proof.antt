@@ -1,17 +1,29 @@
--- What is sent is taken, and the output can be kept (`laid-fits`, `out-ready`, `run-left`).
-use Rattle.l1.proofs.Running.{laid-fits, out-ready, run-left, good-long, good-six}
+-- What is sent can be stored, and the output can be kept (`part-ready`, `out-keeps`, `send-left`).
+use Rattle.l1.proofs.Running.{send-long, send-six, part-ready, effect-after, out-keeps, send-left}
 use borrow.Author.Needs.{needs}
 use Rattle.l1.proofs.flush.cache_run.send.Statement.{statement}
 use Rattle.l1.proofs.flush.cache_run.send.Tie as tie
 
 put-input-requires : tie.Need-put-input-requires
-put-input-requires c κs = (search needs, search (needs, laid-fits))
+put-input-requires c κs = search needs
 
-run-vcpu-requires : tie.Need-run-vcpu-requires
-run-vcpu-requires c κs = search needs
+first-bytes-requires : tie.Need-first-bytes-requires
+first-bytes-requires c κs = search needs
+
+apply-requires : tie.Need-apply-requires
+apply-requires c κs = search (needs, part-ready)
+
+apply-requires-2 : tie.Need-apply-requires-2
+apply-requires-2 c κs = search (needs, effect-after)
+
+put-output-requires : tie.Need-put-output-requires
+put-output-requires c κs = search needs
 
 refresh-requires : tie.Need-refresh-requires
-refresh-requires c κs = (search (needs, good-long), search (needs, good-six), out-ready _ _ _ _ _ _ _ _ _ _ (c .before .before .before .before .before .before .before .before .before .before .before .before .before .before .before .before .before .before .before .before .before .before .before .pre .0) (c .before .before .before .before .before .before .before .before .before .before .before .before .before .before .before .before .before .before .before .before .before .before .before .pre .1) _ _ _ _ (c .before .before .before .before .before .before .before .before .before .before .before .before .before .put-input .ensures) (c .before .before .before .before .before .before .before .run-vcpu .ensures))
+refresh-requires c κs = (search (needs, send-long), search (needs, send-six), search (needs, out-keeps))
+
+success-requires : tie.Need-success-requires
+success-requires c κs = search needs
 
 same-length : tie.Need-same-length
 same-length c = search needs
@@ -29,15 +41,19 @@ same-length-5 : tie.Need-same-length-5
 same-length-5 c = search needs
 
 returns : tie.Need-returns
-returns c = search (needs, run-left)
+returns c = send-left _ _ _ _ _ _ _ _ _ (c .before .before .before .before .before .before .before .before .before .before .before .before .before .before .before .before .before .before .before .before .before .before .before .before .before .before .before .before .before .before .before .before .before .before .before .before .pre) _ (c .before .before .before .before .before .before .before .before .before .before .before .before .before .before .before .before .before .before .before .before .before .before .before .before .before .before .put-input .ensures) _ (c .before .before .before .before .before .before .before .before .before .before .before .before .before .before .before .before .before .before .before .before .before .first-bytes .ensures) _ _ _ (c .before .before .before .before .before .before .before .before .before .before .before .before .before .before .before .before .before .before .before .before .apply .ensures) (c .before .before .before .before .before .before .before .before .before .before .before .before .before .before .before .before .apply2 .ensures) (c .before .before .before .before .before .before .before .before .before .before .before .put-output .ensures) _ _ _ (c .before .before .before .before .before .refresh .ensures) (c .success .ensures)
 
 pub send-spec : {M : Type 1} → statement M
 send-spec =
     tie.close
     (tie.spec
     put-input-requires
-    run-vcpu-requires
+    first-bytes-requires
+    apply-requires
+    apply-requires-2
+    put-output-requires
     refresh-requires
+    success-requires
     same-length
     same-length-2
     same-length-3

@@ -1,5 +1,5 @@
 -- Each size is counted by its mask (`word-bytes`).
-use Rattle.l1.proofs.Sizes.{word-few, word-bytes}
+use Rattle.l1.proofs.Sizes.{word-few, word-bytes, word-none}
 use Prim.Native.Nat.{_+_}
 use native.Mathlib.Omega.{arith}
 use borrow.Author.Needs.{needs}
@@ -15,6 +15,9 @@ mul-word c = search needs
 shared-slice-read-word : tie.Need-shared-slice-read-word
 shared-slice-read-word c = search needs
 
+returns : tie.Need-returns
+returns c = (search (needs, word-none), search needs)
+
 mul-result : tie.Need-mul-result
 mul-result c = search needs
 
@@ -22,10 +25,10 @@ array-read-result : tie.Need-array-read-result
 array-read-result c = search needs
 
 cast-result : tie.Need-cast-result
-cast-result c = search (needs, word-few (c .before .args .marks .now) (c .before .args .k) (c .shared-slice-known .given (3 + c .before .args .k) .fits) .0)
+cast-result c = search (needs, word-few (c .before .before .args .marks .now) (c .before .before .args .k) (c .before .shared-slice-known .given (3 + c .before .before .args .k) .fits) .0)
 
 mul-result-2 : tie.Need-mul-result-2
-mul-result-2 c = search (needs, word-few (c .before .args .marks .now) (c .before .args .k) (c .shared-slice-known .given (3 + c .before .args .k) .fits) .0)
+mul-result-2 c = search (needs, word-few (c .before .before .args .marks .now) (c .before .before .args .k) (c .before .shared-slice-known .given (3 + c .before .before .args .k) .fits) .0)
 
 mul-result-3 : tie.Need-mul-result-3
 mul-result-3 c = search needs
@@ -34,13 +37,13 @@ array-read-result-2 : tie.Need-array-read-result-2
 array-read-result-2 c = search needs
 
 cast-result-2 : tie.Need-cast-result-2
-cast-result-2 c = search (needs, word-few (c .before .args .marks .now) (c .before .args .k) (c .shared-slice-known .given (3 + c .before .args .k) .fits) .1)
+cast-result-2 c = search (needs, word-few (c .before .before .args .marks .now) (c .before .before .args .k) (c .before .shared-slice-known .given (3 + c .before .before .args .k) .fits) .1)
 
 mul-result-4 : tie.Need-mul-result-4
-mul-result-4 c = search (needs, word-few (c .before .args .marks .now) (c .before .args .k) (c .shared-slice-known .given (3 + c .before .args .k) .fits) .1)
+mul-result-4 c = search (needs, word-few (c .before .before .args .marks .now) (c .before .before .args .k) (c .before .shared-slice-known .given (3 + c .before .before .args .k) .fits) .1)
 
 add-result : tie.Need-add-result
-add-result c = let f = word-few (c .before .args .marks .now) (c .before .args .k) (c .shared-slice-known .given (3 + c .before .args .k) .fits) in omega (arith, f .0, f .1)
+add-result c = let f = word-few (c .before .before .args .marks .now) (c .before .before .args .k) (c .before .shared-slice-known .given (3 + c .before .before .args .k) .fits) in omega (arith, f .0, f .1)
 
 mul-result-5 : tie.Need-mul-result-5
 mul-result-5 c = search needs
@@ -49,16 +52,16 @@ array-read-result-3 : tie.Need-array-read-result-3
 array-read-result-3 c = search needs
 
 cast-result-3 : tie.Need-cast-result-3
-cast-result-3 c = search (needs, word-few (c .before .args .marks .now) (c .before .args .k) (c .shared-slice-known .given (3 + c .before .args .k) .fits) .2)
+cast-result-3 c = search (needs, word-few (c .before .before .args .marks .now) (c .before .before .args .k) (c .before .shared-slice-known .given (3 + c .before .before .args .k) .fits) .2)
 
 mul-result-6 : tie.Need-mul-result-6
-mul-result-6 c = search (needs, word-few (c .before .args .marks .now) (c .before .args .k) (c .shared-slice-known .given (3 + c .before .args .k) .fits) .2)
+mul-result-6 c = search (needs, word-few (c .before .before .args .marks .now) (c .before .before .args .k) (c .before .shared-slice-known .given (3 + c .before .before .args .k) .fits) .2)
 
 add-result-2 : tie.Need-add-result-2
-add-result-2 c = let f = word-few (c .before .args .marks .now) (c .before .args .k) (c .shared-slice-known .given (3 + c .before .args .k) .fits) in omega (arith, f .0, f .1, f .2)
+add-result-2 c = let f = word-few (c .before .before .args .marks .now) (c .before .before .args .k) (c .before .shared-slice-known .given (3 + c .before .before .args .k) .fits) in omega (arith, f .0, f .1, f .2)
 
-returns : tie.Need-returns
-returns c = let f = word-few (c .before .args .marks .now) (c .before .args .k) (c .shared-slice-known .given (3 + c .before .args .k) .fits) in (word-bytes (c .before .args .marks .now) (c .before .args .k) (search needs) (c .shared-slice-known .given (3 + c .before .args .k) .fits), omega (arith, f .0, f .1, f .2))
+returns-2 : tie.Need-returns-2
+returns-2 c = let f = word-few (c .before .before .args .marks .now) (c .before .before .args .k) (c .before .shared-slice-known .given (3 + c .before .before .args .k) .fits) in (word-bytes (c .before .before .args .marks .now) (c .before .before .args .k) (search needs) (c .before .shared-slice-known .given (3 + c .before .before .args .k) .fits), omega (arith, f .0, f .1, f .2))
 
 pub word-bytes-spec : {M : Type 1} → statement M
 word-bytes-spec =
@@ -67,6 +70,7 @@ word-bytes-spec =
     add-word
     mul-word
     shared-slice-read-word
+    returns
     mul-result
     array-read-result
     cast-result
@@ -81,4 +85,4 @@ word-bytes-spec =
     cast-result-3
     mul-result-6
     add-result-2
-    returns)
+    returns-2)

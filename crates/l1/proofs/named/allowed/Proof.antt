@@ -1,8 +1,8 @@
 -- What a use permits, with no capability.
 use Rattle.l1.proofs.Marking.{allowed-as}
 use borrow.Author.Needs.{needs}
-use Rattle.l1.proofs.caches.allowed.Statement.{statement}
-use Rattle.l1.proofs.caches.allowed.Tie as tie
+use Rattle.l1.proofs.named.allowed.Statement.{statement}
+use Rattle.l1.proofs.named.allowed.Tie as tie
 
 kind-of-requires : tie.Need-kind-of-requires
 kind-of-requires c κs = search needs

@@ -1,0 +1,23 @@
+-- The PVR stands where the guest's values start (`context-is`).
+use Rattle.state.proofs.Buffers.{context-inside, context-is}
+use borrow.Author.Needs.{needs}
+use Rattle.state.proofs.context_of.Statement.{statement}
+use Rattle.state.proofs.context_of.Tie as tie
+
+guest-at-requires : tie.Need-guest-at-requires
+guest-at-requires c κs = search needs
+
+get32-requires : tie.Need-get32-requires
+get32-requires c κs = search (needs, context-inside)
+
+capabilities-of-requires : tie.Need-capabilities-of-requires
+capabilities-of-requires c κs = search needs
+
+offer-of-requires : tie.Need-offer-of-requires
+offer-of-requires c κs = search needs
+
+returns : tie.Need-returns
+returns c = search (needs, context-is)
+
+pub context-of-spec : {M : Type 1} → statement M
+context-of-spec = tie.close (tie.spec guest-at-requires get32-requires capabilities-of-requires offer-of-requires returns)
