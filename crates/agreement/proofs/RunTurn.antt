@@ -7,9 +7,8 @@ use native.Mathlib.Omega.{arith}
 use lib.Dec.{eqb, ltb, leb}
 use lib.ListN.{length}
 use borrow.Author.Tests.{le-ltb, ltb-false, leb-true, not-false, eqb-true, ne-eqb}
-use Rattle.octets.specs.Bytes.{bytesAt, put, be, zeros, right}
+use Rattle.octets.specs.Bytes.{bytesAt, put, zeros, right}
 use Rattle.octets.proofs.Bytes.{length-put, length-zeros}
-use Rattle.octets.proofs.Numbers.{be-part}
 use Rattle.answer.specs.declared.Fault.{Fault}
 use Rattle.answer.specs.declared.Fault.the-variants.{None, Store, Flag, Guest, Token, Capability, Vcpu, Length, Element, Room, Exists, Unregistered, Short, Exit, Effect, Cache as CacheBad, Taken, Form, InUse}
 use Rattle.answer.specs.declared.RunBuffer.the-variants.{Input, Output}
@@ -17,8 +16,6 @@ use Rattle.answer.specs.declared.Call.{Call as Name}
 use Rattle.answer.specs.declared.Registers.{Registers}
 use Rattle.answer.specs.Answer.{told}
 use Rattle.answer.specs.Refusals.{firstOf}
-use Rattle.elements.specs.declared.Scope.the-variants.{Guest as GuestWide}
-use Rattle.elements.specs.Table.{position}
 use Rattle.elements.specs.Later.{offerOf}
 use Rattle.rules.specs.declared.Context.{Context}
 use Rattle.rules.specs.declared.Usage.the-variants.{RunInput, Effect as InEffect}
@@ -40,13 +37,13 @@ use Rattle.exits.proofs.Rows.{length-output, output-short, returned-few}
 use Rattle.admission.specs.declared.Admission.{Admission}
 use Rattle.admission.specs.declared.Admission.the-variants.{Admitted, Refused}
 use Rattle.admission.specs.Refusals.{Outcome, success, refusal, refuse, decide, judgement, unsupported}
-use Rattle.state.proofs.Buffers.{pvr-place}
 use Rattle.state.specs.State.{pvrOf, contextOf, isStopped, faultOf}
 use Rattle.run.specs.Run.{runBits, inputSize, outputSize, lentTests, effectFault, exitTests, runTargetTests, inputOf, contentTests, ranStore, ran, runVcpu}
 use Rattle.admission.proofs.Judging.{begin-refused, begin-admitted, all-refused, all-admitted, judged-passed}
 use Rattle.promises.proofs.Kept.{applied-header, applied-kept}
 use Rattle.transfer.proofs.Named.{beside}
 use Rattle.promises.proofs.Lowest.{Real}
+use Rattle.promises.proofs.States.{pvr-kept}
 use Rattle.promises.proofs.Told.{none-told}
 use Rattle.l1.specs.Marks.{Cache}
 use Rattle.l1.specs.Cache.{Fit, pending, refreshed, RunOutcome, ranWith, runCache}
@@ -370,18 +367,12 @@ module _ (l : Layout) (so : Sound l) (g v j : ℕ) (below-slots : j < l .slots) 
           let r = live-parts l (header l p) g (ours-live l so g v j below-slots pvr p plain-is) in
           beside (contextOf l p g InEffect) place effect walked p (guestAt l g) guestBytes (right (omega (arith, so .guests-fit, r .0, r .1)))
 
-      then-pvr : pvrOf l then g ≡ pvrOf l p g
-      then-pvr =
-          let q = pvr-place in
-          sym (be-part then (guestAt l g) guestBytes (position GuestWide 0x0003) 4 (omega (arith, q)))
-          ∙ ap (λ (x : List ℕ). be x (position GuestWide 0x0003) 4) then-guest ∙ be-part p (guestAt l g) guestBytes (position GuestWide 0x0003) 4 (omega (arith, q))
-
       then-ours : Ours l so g v j below-slots pvr then
       then-ours = record {
         good = applied-kept l so place effect (countOf effect) p behind ∙ plain-is .good;
         slot = ap (λ (h : List ℕ). slotOf l h g v) (applied-header l so place effect (countOf effect) p behind) ∙ plain-is .slot;
         here = ap (λ (h : List ℕ). isTaken l h j) (applied-header l so place effect (countOf effect) p behind) ∙ plain-is .here;
-        told = then-pvr ∙ plain-is .told;
+        told = pvr-kept l p then g then-guest ∙ plain-is .told;
       }
 
       then-input : inputSize then place ≡ inputSize s place

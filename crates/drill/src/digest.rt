@@ -3,6 +3,7 @@ use answer::Answer;
 use answer::Call;
 use answer::Registers;
 use answer::registers_of;
+use gsb::lookup_value;
 use octets::wide;
 
 fn mix(digest: u64, n: u64) -> u64 {
@@ -27,11 +28,11 @@ pub fn mix_bytes(digest: u64, b: &[u8]) -> u64 {
     d
 }
 
-// After an accepted run the store is seen too.
+// After an accepted run the L1 looks GPR 3 up in the output, and the store is seen too.
 pub fn mix_run(digest: u64, told: Registers, output: &[u8], store: &[u8]) -> u64 {
     let seen = mix_bytes(mix_registers(digest, told), output);
     if told.r3 != 0 {
         return seen;
     }
-    mix_bytes(seen, store)
+    mix_bytes(mix_bytes(seen, lookup_value(output, 0x1003)), store)
 }

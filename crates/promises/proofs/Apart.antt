@@ -12,7 +12,7 @@ use borrow.Author.Tests.{eq-eqb, ne-eqb, lt-ltb, leb-true, eqb-true, ltb-true, l
 use Rattle.octets.specs.Bytes.{bytesAt, put, be, zeros, Clear, left, right}
 use Rattle.octets.specs.Bits.{bit, bits}
 use Rattle.octets.proofs.Bytes.{clear-sym, clear-part, length-bytesAt, length-zeros, put-comm, put-same, read-back, read-other}
-use Rattle.octets.proofs.Numbers.{be-other, be-part}
+use Rattle.octets.proofs.Numbers.{be-other}
 use Rattle.answer.specs.declared.Answer.{Answer}
 use Rattle.answer.specs.declared.Fault.{Fault}
 use Rattle.answer.specs.Refusals.{firstOf}
@@ -66,7 +66,7 @@ use Rattle.promises.specs.Apart.{Elsewhere}
 use Rattle.promises.proofs.HandedOver.{Placed, slot-placed, word-used, handed, handed-word, handed-live, handed-mark-else, handed-write, take-slotted, give-slotted, given-length}
 use Rattle.promises.proofs.Kept.{decided, applied-header, base-values, well-formed-kept}
 use Rattle.promises.proofs.Runs.{input-walked, effect-walked}
-use Rattle.promises.proofs.States.{walked, get-room, set-room, slots-apart, guests-apart}
+use Rattle.promises.proofs.States.{walked, get-room, set-room, slots-apart, guests-apart, pvr-kept}
 
 -- what a call leaves, with w written into the store from q on
 abbrev written : ℕ → List ℕ → Outcome → Outcome
@@ -673,11 +673,7 @@ module _ (l : Layout) (so : Sound l) (s : List ℕ) (good : wellFormed l s ≡ t
 
   -- so that the guest's list stays
   pub apart-pvr : (c : Call) → Elsewhere g c → pvrOf l (outcome l s c .store) g ≡ pvrOf l s g
-  apart-pvr c far =
-      let place = pvr-place in
-      sym (be-part (outcome l s c .store) (guestAt l g) guestBytes (position GuestWide 0x0003) 4 (omega (arith, place)))
-      ∙ ap (λ (x : List ℕ). be x (position GuestWide 0x0003) 4) (apart-guest c far)
-      ∙ be-part s (guestAt l g) guestBytes (position GuestWide 0x0003) 4 (omega (arith, place))
+  apart-pvr c far = pvr-kept l s (outcome l s c .store) g (apart-guest c far)
 
 -- ---- the hypotheses can be met: vCPU 2047 of guest 3 in slot 0, vCPU 0 of guest 1 in slot 1
 abbrev sample : List ℕ

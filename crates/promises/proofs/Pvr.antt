@@ -50,6 +50,7 @@ use Rattle.admission.specs.Refusals.{Outcome, refuse, decide, Passed, hasBit0, 
 use Rattle.admission.specs.Target.{slotNamed, targetTests, baseOf}
 use Rattle.handover.specs.Form.{valuesOf, taken}
 use Rattle.state.specs.HandOver.{takeVcpu, giveVcpu}
+use Rattle.state.proofs.Buffers.{pvr-place}
 use Rattle.state.specs.State.{pvrOf, contextOf, supportedBits, setUse, bufferTests, setElements, setState, getElements}
 use Rattle.state.proofs.HandOvers.{set-plain, get-ways, set-ways}
 use Rattle.promises.proofs.HandedOver.{handed, handed-live, handed-caps, handed-beside, Slotted, take-slotted, give-slotted, given-length}
@@ -60,12 +61,8 @@ use Rattle.promises.specs.Agreed.{ZeroOrAgreed, PvrAgreed, bothPvrs, Liv
 use Rattle.promises.specs.Edges.{element, bufferOf, one}
 use Rattle.promises.proofs.Kept.{decided, applied-header, base-values}
 use Rattle.promises.proofs.Lowest.{all-dead}
-use Rattle.promises.proofs.States.{walked, wide-base, guests-apart, every-guest, other-guest}
+use Rattle.promises.proofs.States.{walked, wide-base, guests-apart, pvr-kept, every-guest, other-guest}
 use Rattle.promises.proofs.Runs.{run-beside}
-
-pvr-place : position GuestWide 0x0003 ≡ 0
-unfolding position below table
-pvr-place = refl
 
 -- a number at the start of a part
 be-front : (s : List ℕ) (i n m : ℕ) → m ≤ n → be (bytesAt s i n) 0 m ≡ be s i m
@@ -352,12 +349,6 @@ module _ (l : Layout) (so : Sound l) where
             subst (λ (x : ℕ). ZeroOrAgreed (capabilitiesOf (header l s)) (pvrOf l (applied x b (countOf b) s) guest)) (sym base)
             (settled (applied-left k u (guestAt l guest) b (walked l s flags guest vcpu b (setUse (hasBit0 flags)) p) (countOf b) (omega arith) s (omega (arith, long, so .guests-fit, so .whole, r .0, r .1))))
 
-    -- the values of a guest, as a whole
-    guest-part : (t : List ℕ) (g : ℕ) → bytesAt t (guestAt l g) guestBytes ≡ bytesAt s (guestAt l g) guestBytes → pvrOf l t g ≡ pvrOf l s g
-    guest-part t g e =
-        sym (be-part t (guestAt l g) guestBytes (position GuestWide 0x0003) 4 (omega (arith, pvr-place)))
-        ∙ ap (λ (x : List ℕ). be x (position GuestWide 0x0003) 4) e ∙ be-part s (guestAt l g) guestBytes (position GuestWide 0x0003) 4 (omega (arith, pvr-place))
-
     -- set capabilities: no guest lives, or the bitmap is the agreed one
     caps-agreed : (flags bitmap : ℕ) → Agreed (setCapabilities l s flags bitmap)
     unfolding setCapabilities
@@ -484,13 +475,13 @@ module _ (l : Layout) (so : Sound l) where
         by-guest e g h (no n) =
             let a = alive g h in
             same-caps (pvrOf l t g)
-            (subst (ZeroOrAgreed (capabilitiesOf (header l s))) (sym (guest-part t g (other-guest l s flags guest vcpu b plain e g (live-parts l (header l s) g a .0) n))) (given g a))
+            (subst (ZeroOrAgreed (capabilitiesOf (header l s))) (sym (pvr-kept l s t g (other-guest l s flags guest vcpu b plain e g (live-parts l (header l s) g a .0) n))) (given g a))
         by-guest e g h (yes q) =
             same-caps (pvrOf l t g)
             (subst (λ (x : ℕ). ZeroOrAgreed (capabilitiesOf (header l s)) (pvrOf l t x)) q (set-own flags guest vcpu b plain e (subst (λ (x : ℕ). live l (header l s) x ≡ true) (sym q) (alive g h))))
 
         by-scope : (wide : Bool) → hasBit0 flags ≡ wide → PvrAgreed l t
-        by-scope false e = kept-header t head (λ g lo hi. guest-part t g (every-guest l s flags guest vcpu b plain e so g hi))
+        by-scope false e = kept-header t head (λ g lo hi. pvr-kept l s t g (every-guest l s flags guest vcpu b plain e so g hi))
         by-scope true e = λ g h. by-guest e g h (ℕ-discrete guest g)
 
     -- a hand-over: a slot's values and its mark
@@ -502,7 +493,7 @@ module _ (l : Layout) (so : Sound l) where
         kept t
         (record {
           caps = sym (caps-front t) ∙ handed-caps l so s j (f .below) w b long ∙ caps-front s;
-          pvrs = λ g lo hi. guest-part t g (handed-beside l so s j (f .below) w b long len (guestAt l g) guestBytes (omega arith) (omega (arith, long, so .guests-fit, so .whole)) (right (omega (arith, so .guests-fit))));
+          pvrs = λ g lo hi. pvr-kept l s t g (handed-beside l so s j (f .below) w b long len (guestAt l g) guestBytes (omega arith) (omega (arith, long, so .guests-fit, so .whole)) (right (omega (arith, so .guests-fit))));
         })
         (λ g h. sym (handed-live l so s j (f .below) w b long g) ∙ h)
 
@@ -524,7 +515,7 @@ module _ (l : Layout) (so : Sound l) where
 
     -- run: a slot's values alone
     run-agreed : (flags guest vcpu : ℕ) (input output effect : List ℕ) (exit : ℕ) → Agreed (runVcpu l s flags guest vcpu input output effect exit)
-    run-agreed flags guest vcpu input output effect exit = record { agreed = kept-header _ (run-header flags guest vcpu input output effect exit) (λ g lo hi. guest-part _ g (run-beside l s flags guest vcpu input output effect exit (guestAt l g) guestBytes (slot-behind guest vcpu g lo hi))) }
+    run-agreed flags guest vcpu input output effect exit = record { agreed = kept-header _ (run-header flags guest vcpu input output effect exit) (λ g lo hi. pvr-kept l s _ g (run-beside l s flags guest vcpu input output effect exit (guestAt l g) guestBytes (slot-behind guest vcpu g lo hi))) }
 
     call-agreed : (c : Call) → Agreed (outcome l s c)
     unfolding outcome getCapabilities guestClock

@@ -10,7 +10,10 @@ use native.Mathlib.Omega.{arith}
 use lib.Dec.{leb}
 use lib.ListN.{length, getD}
 use borrow.Author.Tests.{leb-false, not-false}
-use Rattle.octets.specs.Bytes.{bytesAt, Clear, left, right}
+use Rattle.octets.specs.Bytes.{bytesAt, be, Clear, left, right}
+use Rattle.octets.proofs.Numbers.{be-part}
+use Rattle.elements.specs.declared.Scope.the-variants.{Guest as GuestWide}
+use Rattle.elements.specs.Table.{position}
 use Rattle.answer.specs.declared.Answer.{Answer}
 use Rattle.answer.specs.declared.Bad.{Bad}
 use Rattle.answer.specs.declared.Call.{Call as Name}
@@ -39,7 +42,8 @@ use Rattle.transfer.specs.Named.{Named, ValueByte}
 use Rattle.transfer.proofs.Named.{applied-frame, filled-frame, beside}
 use Rattle.admission.specs.Refusals.{Outcome, success, accept, refuse, decide, hasBit0, handsOver, Passed}
 use Rattle.admission.specs.Target.{targetTests, baseOf}
-use Rattle.state.specs.State.{contextOf, isStopped, faultOf, badElement, bufferTests, supportedBits, setUse, setElements, setState, getUse, fillWith, getElements, getState}
+use Rattle.state.proofs.Buffers.{pvr-place}
+use Rattle.state.specs.State.{pvrOf, contextOf, isStopped, faultOf, badElement, bufferTests, supportedBits, setUse, setElements, setState, getUse, fillWith, getElements, getState}
 use Rattle.state.proofs.HandOvers.{get-plain, set-plain}
 use Rattle.l0.specs.Calls.{GetState, SetState, outcome}
 use Rattle.promises.specs.History.{registers}
@@ -204,6 +208,13 @@ guests-apart l g k a b n = go (decLt g k)
     go : Dec (g < k) → Clear (guestAt l g) guestBytes (guestAt l k) guestBytes
     go (yes h) = left (omega arith)
     go (no h) = right (omega arith)
+
+-- a guest's PVR is one of its values
+pub pvr-kept : (l : Layout) (s t : List ℕ) (g : ℕ) → bytesAt t (guestAt l g) guestBytes ≡ bytesAt s (guestAt l g) guestBytes → pvrOf l t g ≡ pvrOf l s g
+pvr-kept l s t g e =
+    let p = pvr-place in
+    sym (be-part t (guestAt l g) guestBytes (position GuestWide 0x0003) 4 (omega (arith, p)))
+    ∙ ap (λ (x : List ℕ). be x (position GuestWide 0x0003) 4) e ∙ be-part s (guestAt l g) guestBytes (position GuestWide 0x0003) 4 (omega (arith, p))
 
 -- the store, the guest and the vCPU are any: a call that is refused changes nothing. The flags are any but those of a hand-over.
 module _ (l : Layout) (s : List ℕ) (flags guest vcpu : ℕ) (b : List ℕ) (plain : handsOver flags ≡ false) where
