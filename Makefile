@@ -19,7 +19,7 @@ vendors = $(patsubst bench/mistakes/%.edit,$(bench)/vendor-%.so,$(wildcard bench
     $(patsubst tests/score/hostile/%.c,$(bench)/hostile-%.so,$(wildcard tests/score/hostile/*.c)) \
     $(bench)/model.so $(bench)/private.so
 headers = $(wildcard include/*.h bench/*.h)
-night = $(addprefix bench/,night.c form.c gsb.c lent.c chance.c tell.c)
+night = $(addprefix bench/,night.c damage.c form.c gsb.c lent.c store.c chance.c tell.c)
 scoring = $(addprefix bench/,account.c cover.c csv.c figures.c judge.c order.c page.c parts.c result.c sha256.c \
     text.c vendor.c watch.c window.c)
 
@@ -32,8 +32,9 @@ all: $(archive) ## prove the library and build target/staticlib/libadderknot.a
 
 bench: $(programs) $(vendors) ## build the C programs, and vendors' libraries to try the score on
 
-run: $(bench)/compare ## compare the library with the model, on two million calls
+run: $(bench)/compare ## compare the library with the model, on two million calls of the small store and two million of the large one
 	$(bench)/compare $(ARGS)
+	$(bench)/compare --large $(ARGS)
 
 score: $(bench)/score $(bench)/score-vendor $(bench)/model.so ## score a vendor's library: make score VENDOR=./vendor.so ARGS='--opaque --report score.html'
 	$(bench)/score $(if $(VENDOR),--vendor '$(VENDOR)') $(ARGS)
@@ -140,8 +141,9 @@ $(bench)/%: bench/%.c $(headers) $(archive)
 $(bench)/cached $(bench)/calls $(bench)/compare $(bench)/count $(bench)/shallow $(bench)/speed: bench/model.c
 $(bench)/cached $(bench)/count $(bench)/shallow $(bench)/speed: bench/model_cache.c $(cache_archive)
 $(bench)/count $(bench)/shallow $(bench)/speed: bench/cases.c
+$(bench)/calls $(bench)/count $(bench)/speed: bench/store.c
 $(bench)/cached $(bench)/compare $(bench)/score $(bench)/shallow: $(night)
-$(bench)/compare: bench/lists.c
+$(bench)/compare: bench/lists.c bench/met.c bench/both.c
 # A first call through the dynamic linker would take its stack.
 $(bench)/shallow: LDLIBS = -Wl,-z,now
 $(bench)/shallow: bench/deep.c bench/depth.c

@@ -40,7 +40,7 @@ void tell_made(FILE *to, const struct order *o, const struct made *m, bool all)
     if (theirs != NULL)
         print_differing(to, c, m->ours.r3 != ADK_OK, "vendor", all ? 64 : 4);
     struct telling t = { to, c, &m->ours, theirs, "vendor", all ? UINT_MAX / 2 : 12 };
-    print_lent(&t, all ? SIZE_MAX : HEADER);
+    print_lent(&t, all ? SIZE_MAX : layout->header);
     if (all)
         return;
     fprintf(to, "  to repeat: ");

@@ -5,7 +5,8 @@
  *     make target/bench/cached
  *     cached [--calls N] [--seed S | --seed fresh]
  *
- * N counts the operations of the cache. Lines 'passed cached NAME' or 'failed cached NAME' say what was established:
+ * N counts the operations of the cache, on small stores and again on large ones. Lines 'passed cached SIZE NAME' or
+ * 'failed cached SIZE NAME' say what was established:
  *
  *     agreement   answers, caches, stores and buffers are the same, and a refusal changed no lent byte
  *     coverage    each operation gave each answer that it can give; reads were served from the cache and from the
@@ -72,10 +73,10 @@ static void choose_vcpu(struct op *o)
 {
     static unsigned slot;
     if (percent(10))
-        slot = below(ADK_SLOTS);
-    uint64_t word = adk_read_be(memory[BEFORE][STORE] + WORDS + 2 * slot, 2);
-    o->guest = percent(95) ? word >> 11 & 15 : any_number();
-    o->vcpu = percent(95) ? word & ADK_VCPU_MAX : any_number();
+        slot = below(layout->slots);
+    unsigned word = word_in(memory[BEFORE][STORE], slot % layout->slots);
+    o->guest = percent(95) ? guest_in(word) : any_number();
+    o->vcpu = percent(95) ? vcpu_in(word) : any_number();
 }
 
 /* Mostly the guest's. */
@@ -112,10 +113,10 @@ static void lend_run(struct op *o)
         effect.id[i] = taken_id(&effect);
     build_run(&effect);
     lend(&c, &effect);
-    if (slot < ADK_SLOTS && percent(95)) {
+    if (slot < layout->slots && percent(95)) {
         put_registered_size(slot, ADK_GSID_RUN_INPUT, input);
         put_registered_size(slot, ADK_GSID_RUN_OUTPUT, ADK_RUN_OUTPUT_MIN - percent(3));
-        share(STORE, 0, ADK_STORE_SIZE);
+        share(STORE, slot_at(slot), SLOT_SIZE);
     }
     o->len[EFFECT] = c.len[EFFECT];
     o->len[INPUT] = percent(90) ? input + below(40) : below(2500);
@@ -132,7 +133,7 @@ static struct op next_op(void)
     o.pvr = any_pvr(o.guest);
     o.id = any_element();
     o.value_len = any_value_length(o.id);
-    o.len[STORE] = percent(98) ? ADK_STORE_SIZE : ADK_STORE_SIZE - 1;
+    o.len[STORE] = percent(98) ? layout->size : layout->size - 1;
     if (percent(2))
         o.values_len -= 1 + below(3);
     if (percent(2))
@@ -236,7 +237,7 @@ static bool same_side(const struct op *o, enum side a, enum side b)
 
 static void report(uint64_t number, const struct op *o, const adk_answer *lib, const adk_answer *mdl)
 {
-    printf("failed cached agreement\n  operation %" PRIu64 ": %s", number, OP_NAME[o->kind]);
+    printf("failed cached %s agreement\n  operation %" PRIu64 ": %s", layout->name, number, OP_NAME[o->kind]);
     printf(", told PVR 0x%08" PRIX32, o->pvr);
     if (o->kind != WRITE)
         printf(", guest %" PRIu64 " of PVR 0x%08" PRIX32 ", vCPU %" PRIu64, o->guest, pvr_of(o->guest), o->vcpu);
@@ -278,17 +279,13 @@ static bool read_options(int argc, char **argv, uint64_t *seed, uint64_t *ops)
     return true;
 }
 
-int main(int argc, char **argv)
+/* A night of stores of this size; 0 if nothing differs and all was met. */
+static int make_night(enum size size, uint64_t ops)
 {
-    uint64_t seed = SEED, ops = 300000, number = 1;
-    if (!read_options(argc, argv, &seed, &ops)) {
-        fprintf(stderr, "usage: cached [--calls N] [--seed S | --seed fresh]\n");
-        return 2;
-    }
-    printf("cached: %" PRIu64 " operations, seed 0x%" PRIX64 "\n", ops, seed);
-    seed_chance(seed);
-    make_memory();
-    begin_night((struct manner){ .opaque = false });
+    const char *name = LAYOUTS[size].name;
+    uint64_t number = 1;
+    met = (struct met){ 0 };
+    begin_night((struct manner){ .large = size == LARGE, .no_conversion = true });
     for (uint64_t n = 1; n <= ops; n++) {
         if (percent(5))
             change_store(number++);
@@ -296,7 +293,23 @@ int main(int argc, char **argv)
             return 1;
     }
     bool all = all_met();
-    printf("passed cached agreement\n%s cached coverage\n", all ? "passed" : "failed");
-    free_memory();
+    printf("passed cached %s agreement\n%s cached %s coverage\n", name, all ? "passed" : "failed", name);
     return all ? 0 : 1;
+}
+
+int main(int argc, char **argv)
+{
+    uint64_t seed = SEED, ops = 200000;
+    if (!read_options(argc, argv, &seed, &ops)) {
+        fprintf(stderr, "usage: cached [--calls N] [--seed S | --seed fresh]\n");
+        return 2;
+    }
+    printf("cached: %" PRIu64 " operations on stores of each size, seed 0x%" PRIX64 "\n", ops, seed);
+    seed_chance(seed);
+    make_memory();
+    int result = 0;
+    for (enum size size = 0; size < SIZES; size++)
+        result |= make_night(size, ops);
+    free_memory();
+    return result;
 }

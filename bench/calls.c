@@ -6,10 +6,15 @@
  *
  * A line is a statement; one that begins with a space goes on with the line before, and # begins a comment.
  *
- *     case TEXT                             begins a case, with a fresh store
+ *     case TEXT                             begins a case, with a fresh small store
+ *     store N                               goes on with N bytes of zeros as the store; 119,924 are a large one
+ *     lend N                                goes on with the first N of these bytes as the store, as they are
+ *     convert N = r3                        converts the store into N bytes that are 0xEE before, and, where that is
+ *                                           accepted, goes on with these as the store
  *     NAME numbers buffers = r3 r4 r5       a call: its name without adk_, then, each in the order of adderknot.h, its
  *                                           numbers and the buffers lent. r4 and r5 are 0 where they are left out
  *     NAME numbers buffers = r3 r4 r5 [..]  the same, where the call writes a buffer: what that buffer holds afterwards
+ *     create_vcpus GUEST N                  creates vCPUs 0 to N - 1 of the guest, each accepted
  *     store_is AT [..]                      the store holds these bytes from byte AT
  *     store_put AT [..]                     puts bytes there
  *     slot_is SLOT AT [..]                  the values of a slot do
@@ -21,19 +26,16 @@
  */
 #include "l0.h"
 #include "model.h"
+#include "store.h"
 
 #include <ctype.h>
-#include <stdbool.h>
 #include <stdio.h>
 #include <stdlib.h>
 #include <string.h>
 
 #define COUNT(a) (sizeof(a) / sizeof((a)[0]))
 
-enum { NUMBERS = 4, PIECES = 3, BYTES_MAX = ADK_BUFFER_MAX + 1, TEXT_MAX = 4096 };
-
-/* Where the values of the slots begin in a store, and how many bytes each has. */
-enum { SLOT_VALUES = 460, SLOT_SIZE = 1820 };
+enum { NUMBERS = 4, PIECES = 3, BYTES_MAX = ADK_BUFFER_MAX + 1, TEXT_MAX = 4096, STORE_MAX = 2 * ADK_LARGE_STORE_SIZE };
 
 struct bytes {
     size_t n;
@@ -53,9 +55,12 @@ struct statement {
 struct side {
     const char *name;
     struct l0 on;
-    uint8_t store[ADK_STORE_SIZE];
+    uint8_t store[STORE_MAX], target[STORE_MAX];
     struct bytes piece[PIECES];
 };
+
+/* How many bytes are the store, on both sides. */
+static size_t store_len;
 
 static struct side sides[] = { { .name = "library", .on = L0_LIBRARY }, { .name = "model", .on = L0_MODEL } };
 
@@ -69,7 +74,7 @@ typedef adk_answer make_call(struct side *s, const uint64_t *n);
         return s->on.name(__VA_ARGS__);                              \
     }
 
-#define STORE s->store, sizeof s->store
+#define STORE s->store, store_len
 #define PIECE(i) s->piece[i].b, s->piece[i].n
 
 MAKE(fresh_store, STORE)
@@ -111,16 +116,22 @@ static bool same_bytes(const struct bytes *a, const struct bytes *b)
     return a->n == b->n && memcmp(a->b, b->b, a->n) == 0;
 }
 
+static bool is_expected(const struct side *s, const adk_answer *a, const struct statement *t)
+{
+    if (a->r3 == t->answer[0] && a->r4 == t->answer[1] && a->r5 == t->answer[2])
+        return true;
+    printf("  %s answers %llu %llu %llu\n", s->name, (unsigned long long)a->r3, (unsigned long long)a->r4,
+           (unsigned long long)a->r5);
+    return false;
+}
+
 static bool call_on(struct side *s, const struct kind *k, const struct statement *t)
 {
-    static uint8_t before[ADK_STORE_SIZE];
+    static uint8_t before[STORE_MAX];
     memcpy(before, s->store, sizeof before);
     memcpy(s->piece, t->piece, sizeof s->piece);
     adk_answer a = k->make(s, t->number);
-    bool holds = a.r3 == t->answer[0] && a.r4 == t->answer[1] && a.r5 == t->answer[2];
-    if (!holds)
-        printf("  %s answers %llu %llu %llu\n", s->name, (unsigned long long)a.r3, (unsigned long long)a.r4,
-               (unsigned long long)a.r5);
+    bool holds = is_expected(s, &a, t);
     if (a.r3 != 0 && memcmp(before, s->store, sizeof before) != 0) {
         printf("  %s refuses and changes the store\n", s->name);
         holds = false;
@@ -133,6 +144,14 @@ static bool call_on(struct side *s, const struct kind *k, const struct statement
     return holds;
 }
 
+static bool same_stores(void)
+{
+    if (memcmp(sides[0].store, sides[1].store, STORE_MAX) == 0)
+        return true;
+    printf("  library and model leave different stores\n");
+    return false;
+}
+
 static bool call(const struct kind *k, const struct statement *t)
 {
     bool holds = true;
@@ -140,17 +159,54 @@ static bool call(const struct kind *k, const struct statement *t)
         return false;
     for (size_t i = 0; i < COUNT(sides); i++)
         holds = call_on(&sides[i], k, t) && holds;
-    bool same = memcmp(sides[0].store, sides[1].store, ADK_STORE_SIZE) == 0;
-    if (!same)
-        printf("  library and model leave different stores\n");
-    return holds && same;
+    return same_stores() && holds;
+}
+
+/* So many bytes are the store. */
+static bool lend(uint64_t n)
+{
+    store_len = n <= STORE_MAX ? n : 0;
+    layout = &LAYOUTS[n == ADK_LARGE_STORE_SIZE ? LARGE : SMALL];
+    return n <= STORE_MAX;
+}
+
+/* A store of zeros. */
+static bool begin_store(uint64_t n)
+{
+    for (size_t i = 0; i < COUNT(sides); i++)
+        memset(sides[i].store, 0, STORE_MAX);
+    return lend(n);
+}
+
+static bool convert_on(struct side *s, const struct statement *t, size_t n)
+{
+    static uint8_t before[STORE_MAX];
+    memcpy(before, s->store, sizeof before);
+    memset(s->target, 0xEE, sizeof s->target);
+    adk_answer a = s->on.convert(s->store, store_len, s->target, n);
+    size_t written = a.r3 == 0 ? n : 0;
+    bool holds = is_expected(s, &a, t) && memcmp(before, s->store, sizeof before) == 0;
+    for (size_t i = written; i < sizeof s->target; i++)
+        holds = holds && s->target[i] == 0xEE;
+    memcpy(s->store, s->target, written);
+    return holds;
+}
+
+static bool convert(const struct statement *t)
+{
+    bool holds = t->number[0] <= STORE_MAX && t->answers != 0;
+    for (size_t i = 0; holds && i < COUNT(sides); i++)
+        holds = convert_on(&sides[i], t, t->number[0]);
+    if (holds && t->answer[0] == 0)
+        lend(t->number[0]);
+    return holds && same_stores();
 }
 
 /* The bytes from a place of the store are looked at or, if put, written. */
 static bool store_bytes(const struct statement *t, uint64_t at, bool put)
 {
     const struct bytes *bytes = &t->piece[0];
-    bool holds = t->pieces == 1 && t->answers == 0 && at <= ADK_STORE_SIZE && bytes->n <= ADK_STORE_SIZE - at;
+    bool holds = t->pieces == 1 && t->answers == 0 && at <= store_len && bytes->n <= store_len - at;
     for (size_t i = 0; holds && i < COUNT(sides); i++) {
         if (put)
             memcpy(sides[i].store + at, bytes->b, bytes->n);
@@ -159,17 +215,44 @@ static bool store_bytes(const struct statement *t, uint64_t at, bool put)
     return holds;
 }
 
-static bool carry_out(const struct statement *t)
+static const struct kind *kind_of(const char *name)
 {
     for (size_t i = 0; i < COUNT(KINDS); i++)
-        if (strcmp(t->name, KINDS[i].name) == 0)
-            return call(&KINDS[i], t);
+        if (strcmp(name, KINDS[i].name) == 0)
+            return &KINDS[i];
+    return NULL;
+}
+
+static bool create_vcpus(uint64_t guest, uint64_t n)
+{
+    static struct statement one;
+    bool holds = true;
+    for (uint64_t vcpu = 0; holds && vcpu < n; vcpu++) {
+        one = (struct statement){ .numbers = 3, .number = { 0, guest, vcpu }, .answers = 1 };
+        holds = call(kind_of("create_vcpu"), &one);
+    }
+    return holds;
+}
+
+static bool carry_out(const struct statement *t)
+{
+    const struct kind *k = kind_of(t->name);
+    if (k != NULL)
+        return call(k, t);
+    if (strcmp(t->name, "convert") == 0 && t->numbers == 1)
+        return convert(t);
+    if (strcmp(t->name, "create_vcpus") == 0 && t->numbers == 2)
+        return create_vcpus(t->number[0], t->number[1]);
+    if (strcmp(t->name, "store") == 0 && t->numbers == 1)
+        return begin_store(t->number[0]);
+    if (strcmp(t->name, "lend") == 0 && t->numbers == 1)
+        return lend(t->number[0]);
     bool put = strcmp(t->name, "store_put") == 0;
     if ((put || strcmp(t->name, "store_is") == 0) && t->numbers == 1)
         return store_bytes(t, t->number[0], put);
     put = strcmp(t->name, "slot_put") == 0;
-    if ((put || strcmp(t->name, "slot_is") == 0) && t->numbers == 2 && t->number[0] < ADK_SLOTS)
-        return store_bytes(t, SLOT_VALUES + SLOT_SIZE * t->number[0] + t->number[1], put);
+    if ((put || strcmp(t->name, "slot_is") == 0) && t->numbers == 2 && t->number[0] < layout->slots)
+        return store_bytes(t, slot_at((unsigned)t->number[0]) + t->number[1], put);
     return false;
 }
 
@@ -265,8 +348,7 @@ static void begin_case(struct play *play, const char *title)
 {
     end_case(play);
     snprintf(play->title, sizeof play->title, "%s", title);
-    for (size_t i = 0; i < COUNT(sides); i++)
-        memset(sides[i].store, 0, ADK_STORE_SIZE);
+    begin_store(ADK_STORE_SIZE);
 }
 
 /* A whole statement, its lines joined. Outside a case none holds. */

@@ -8,10 +8,8 @@
 #include "cache.h"
 #include "model.h"
 
+#include <stdio.h>
 #include <string.h>
-
-/* Where the marks and the values begin in a store, and the values of the last slot. */
-enum { MARKS = 42, VALUES = 44, GUEST_SIZE = 52, SLOT_SIZE = 1820, LAST_VALUES = ADK_STORE_SIZE - SLOT_SIZE };
 
 /* ---- The two sides ---- */
 
@@ -31,7 +29,9 @@ struct cache {
 struct party {
     struct l0 on;
     struct l1 above;
-    uint8_t store[ADK_STORE_SIZE];
+    uint8_t store[ADK_LARGE_STORE_SIZE];
+    size_t store_len;
+    uint64_t guest; /* the last one */
     struct buffer buffer, effect; /* buffer is a run's input */
     uint8_t output[ADK_BUFFER_MAX];
     struct cache cache;
@@ -42,27 +42,27 @@ struct party library = { .on = L0_LIBRARY, .above = L1_LIBRARY }, model = { .on 
 
 static adk_answer call_get(struct party *s)
 {
-    return s->on.get_state(s->store, sizeof s->store, 0, GUEST, VCPU, s->buffer.bytes, s->buffer.len);
+    return s->on.get_state(s->store, s->store_len, 0, s->guest, VCPU, s->buffer.bytes, s->buffer.len);
 }
 
 static adk_answer call_set(struct party *s)
 {
-    return s->on.set_state(s->store, sizeof s->store, 0, GUEST, VCPU, s->buffer.bytes, s->buffer.len);
+    return s->on.set_state(s->store, s->store_len, 0, s->guest, VCPU, s->buffer.bytes, s->buffer.len);
 }
 
 /* Both run buffers are registered and lent with the greatest size; the input's count says where it ends. */
 static adk_answer call_run(struct party *s)
 {
-    return s->on.run_vcpu(s->store, sizeof s->store, 0, GUEST, VCPU, s->buffer.bytes, sizeof s->buffer.bytes,
+    return s->on.run_vcpu(s->store, s->store_len, 0, s->guest, VCPU, s->buffer.bytes, sizeof s->buffer.bytes,
                           s->output, sizeof s->output, s->effect.bytes, s->effect.len, ADK_EXIT_HCALL);
 }
 
 /* Three calls. The guest comes back under its number, and its vCPU in the slot that was freed. */
 static adk_answer call_anew(struct party *s)
 {
-    adk_answer gone = s->on.delete_guest(s->store, sizeof s->store, 0, GUEST);
-    adk_answer guest = s->on.create_guest(s->store, sizeof s->store, 0, ADK_TOKEN);
-    adk_answer vcpu = s->on.create_vcpu(s->store, sizeof s->store, 0, guest.r4, VCPU);
+    adk_answer gone = s->on.delete_guest(s->store, s->store_len, 0, s->guest);
+    adk_answer guest = s->on.create_guest(s->store, s->store_len, 0, ADK_TOKEN);
+    adk_answer vcpu = s->on.create_vcpu(s->store, s->store_len, 0, guest.r4, VCPU);
     return (adk_answer){ gone.r3 | guest.r3 | vcpu.r3, guest.r4, 0 };
 }
 
@@ -72,16 +72,16 @@ static uint8_t values[SLOT_SIZE];
 /* The values are put back first, and the mark is taken away, so that each call takes the same. */
 static adk_answer call_take(struct party *s)
 {
-    memcpy(s->store + LAST_VALUES, values, SLOT_SIZE);
-    s->store[MARKS + 1] &= 0xFE;
-    return s->on.get_state(s->store, sizeof s->store, ADK_HAND_OVER, GUEST, VCPU, s->buffer.bytes, s->buffer.len);
+    memcpy(s->store + s->store_len - SLOT_SIZE, values, SLOT_SIZE);
+    s->store[layout->marks + layout->marks_size - 1] &= 0xFE;
+    return s->on.get_state(s->store, s->store_len, ADK_HAND_OVER, s->guest, VCPU, s->buffer.bytes, s->buffer.len);
 }
 
 /* The mark is set first, so that each call gives back. */
 static adk_answer call_give(struct party *s)
 {
-    s->store[MARKS + 1] |= 1;
-    return s->on.set_state(s->store, sizeof s->store, ADK_HAND_OVER, GUEST, VCPU, s->buffer.bytes, s->buffer.len);
+    s->store[layout->marks + layout->marks_size - 1] |= 1;
+    return s->on.set_state(s->store, s->store_len, ADK_HAND_OVER, s->guest, VCPU, s->buffer.bytes, s->buffer.len);
 }
 
 static adk_answer call_lookup(struct party *s)
@@ -116,7 +116,7 @@ static adk_answer call_cache_write(struct party *s)
 static adk_answer call_cache_read(struct party *s)
 {
     struct cache *c = &s->cache;
-    return s->above.read(s->store, sizeof s->store, GUEST, VCPU, ADK_PVR_ARCH_31, c->values, sizeof c->values,
+    return s->above.read(s->store, s->store_len, s->guest, VCPU, ADK_PVR_ARCH_31, c->values, sizeof c->values,
                          c->marks, CACHE_MARKS, ADK_GSID_GPR(3), c->value, sizeof c->value);
 }
 
@@ -131,7 +131,7 @@ static adk_answer call_cache_run(struct party *s, const uint64_t *marks)
 {
     struct cache *c = &s->cache;
     put_marks(c, marks);
-    return s->above.run(s->store, sizeof s->store, 0, GUEST, VCPU, ADK_PVR_ARCH_31, c->values, sizeof c->values,
+    return s->above.run(s->store, s->store_len, 0, s->guest, VCPU, ADK_PVR_ARCH_31, c->values, sizeof c->values,
                         c->marks, CACHE_MARKS, s->buffer.bytes, sizeof s->buffer.bytes, s->output,
                         sizeof s->output, s->effect.bytes, s->effect.len, ADK_EXIT_HCALL);
 }
@@ -279,53 +279,69 @@ static void build_nops(struct buffer *b)
 
 /* ---- Cases ---- */
 
-const struct work WORK[] = {
+static const struct work WORK[] = {
     { "set state, one GPR", call_set, build_one, 1, 0, ADK_OK, 0, ANY_PVR },
     { "set state, the 164 elements of a run input and both registrations",
       call_set, build_166, 166, 0, ADK_OK, 0, ANY_PVR },
     { "get state, all 169 readable thread elements", call_get, build_readable, 169, 0, ADK_OK, 0, ANY_PVR },
     { "set state, refused: the last of 164 is bad", call_set, build_bad, 164, 0, ADK_INVALID_ELEMENT_ID, 163, ANY_PVR },
     { "set state, 16,383 empty NOPs", call_set, build_nops, 16383, 0, ADK_OK, 0, ANY_PVR },
-    { "lookup, the last of 164", call_lookup, build_input, 164, 0, ADK_OK, 0, ANY_PVR },
     { "run, exit 0xC00, empty input and effect", call_run, build_none, 0, 0, ADK_OK, ADK_EXIT_HCALL, ANY_PVR },
     { "run, exit 0xC00, 164 elements of input and 20 of effect",
       call_run, build_input, 164, 20, ADK_OK, ADK_EXIT_HCALL, ANY_PVR },
-    { "delete a guest, create it and its vCPU, the other 15 slots in use",
-      call_anew, build_none, 0, 0, ADK_OK, GUEST, ANY_PVR },
+    { "delete a guest, create it and its vCPU, the other slots in use",
+      call_anew, build_none, 0, 0, ADK_OK, (uint64_t)THE_GUEST, ANY_PVR },
     { "get state, a vCPU with all 170 values taken", call_take, build_room, 0, 0, ADK_OK, 0, ANY_PVR },
     { "set state, a vCPU with all 170 values given back", call_give, build_form, 0, 0, ADK_OK, 0, ANY_PVR },
     { "set state, POWER9: the 155 elements of its run input",
       call_set, build_input, 155, 0, ADK_OK, 0, ADK_PVR_ARCH_300 },
     { "get state, POWER9: all its 160 readable thread elements",
       call_get, build_readable, 160, 0, ADK_OK, 0, ADK_PVR_ARCH_300 },
-    { "cache, a write of GPR 3", call_cache_write, build_none, 0, 0, ADK_OK, 0, ANY_PVR },
-    { "cache, a read of GPR 3, valid", call_cache_read, build_none, 0, 0, ADK_OK, 0, ANY_PVR },
     { "cache, a read of GPR 3 through the store", call_read_through, build_none, 0, 0, ADK_OK, 0, ANY_PVR },
     { "cache, a run, exit 0xC00, none changed",
       call_run_none, build_input_room, 0, 0, ADK_OK, ADK_EXIT_HCALL, ANY_PVR },
     { "cache, a run, exit 0xC00, all 164 changed",
       call_run_all, build_input_room, 0, 0, ADK_OK, ADK_EXIT_HCALL, ANY_PVR },
+    { "lookup, the last of 164", call_lookup, build_input, 164, 0, ADK_OK, 0, ANY_PVR },
+    { "cache, a write of GPR 3", call_cache_write, build_none, 0, 0, ADK_OK, 0, ANY_PVR },
+    { "cache, a read of GPR 3, valid", call_cache_read, build_none, 0, 0, ADK_OK, 0, ANY_PVR },
 };
 
-const size_t WORKS = sizeof WORK / sizeof WORK[0];
+/* The last ones look at no store. */
+enum { WORKS = sizeof WORK / sizeof WORK[0], WITHOUT_STORE = 3 };
+
+size_t case_count(void)
+{
+    return 2 * WORKS - WITHOUT_STORE;
+}
+
+struct measured case_of(size_t number)
+{
+    enum size size = number < WORKS ? SMALL : LARGE;
+    struct measured m = { &WORK[number % WORKS], size, "" };
+    snprintf(m.name, sizeof m.name, "%s%s", size == SMALL ? "" : "large store: ", m.work->name);
+    return m;
+}
 
 /* Its values differ, so that one from a wrong place shows. */
 bool fill_store(uint8_t *store)
 {
     static struct buffer both;
-    uint64_t refused = adk_fresh_store(store, ADK_STORE_SIZE).r3;
-    refused |= adk_set_capabilities(store, ADK_STORE_SIZE, 0, ADK_CAP_POWER9 | ADK_CAP_POWER10).r3;
-    for (unsigned i = 0; i < ADK_GUESTS; i++)
-        refused |= adk_create_guest(store, ADK_STORE_SIZE, 0, ADK_TOKEN).r3;
-    for (unsigned i = 1; i < ADK_SLOTS; i++)
-        refused |= adk_create_vcpu(store, ADK_STORE_SIZE, 0, 1 + i % (GUEST - 1), i).r3;
-    refused |= adk_create_vcpu(store, ADK_STORE_SIZE, 0, GUEST, VCPU).r3;
-    for (size_t i = VALUES; i < ADK_STORE_SIZE; i++)
+    size_t n = layout->size;
+    unsigned guest = layout->guests;
+    uint64_t refused = adk_fresh_store(store, n).r3;
+    refused |= adk_set_capabilities(store, n, 0, ADK_CAP_POWER9 | ADK_CAP_POWER10).r3;
+    for (unsigned i = 0; i < layout->guests; i++)
+        refused |= adk_create_guest(store, n, 0, ADK_TOKEN).r3;
+    for (unsigned i = 1; i < layout->slots; i++)
+        refused |= adk_create_vcpu(store, n, 0, 1 + i % (guest - 1), i).r3;
+    refused |= adk_create_vcpu(store, n, 0, guest, VCPU).r3;
+    for (size_t i = layout->header; i < n; i++)
         store[i] = (uint8_t)(101 * i);
-    memcpy(values, store + LAST_VALUES, SLOT_SIZE);
+    memcpy(values, store + n - SLOT_SIZE, SLOT_SIZE);
     begin(&both, 2, ANY_PVR);
     build_registrations(&both);
-    refused |= adk_set_state(store, ADK_STORE_SIZE, 0, GUEST, VCPU, both.bytes, both.len).r3;
+    refused |= adk_set_state(store, n, 0, guest, VCPU, both.bytes, both.len).r3;
     return refused == 0;
 }
 
@@ -346,9 +362,11 @@ static bool same_cache(const struct cache *a, const struct cache *b)
 
 static void prepare_side(struct party *s, const uint8_t *store, const struct work *w)
 {
-    memcpy(s->store, store, sizeof s->store);
+    s->store_len = layout->size;
+    s->guest = layout->guests;
+    memcpy(s->store, store, s->store_len);
     if (w->pvr != ANY_PVR)
-        put(s->store + VALUES + GUEST_SIZE * (GUEST - 1), 4, w->pvr);
+        put(s->store + guest_at(s->guest), 4, w->pvr);
     memset(s->output, 0xEE, sizeof s->output);
     begin(&s->buffer, w->count, w->pvr);
     w->build(&s->buffer);
@@ -358,10 +376,15 @@ static void prepare_side(struct party *s, const uint8_t *store, const struct wor
     prepare_cache(&s->cache);
 }
 
-void prepare(const uint8_t *store, const struct work *w)
+bool prepare(const struct measured *m)
 {
-    prepare_side(&library, store, w);
-    prepare_side(&model, store, w);
+    static uint8_t store[ADK_LARGE_STORE_SIZE];
+    layout = &LAYOUTS[m->size];
+    if (!fill_store(store))
+        return false;
+    prepare_side(&library, store, m->work);
+    prepare_side(&model, store, m->work);
+    return true;
 }
 
 static bool same_buffer(const struct buffer *a, const struct buffer *b)
@@ -372,9 +395,10 @@ static bool same_buffer(const struct buffer *a, const struct buffer *b)
 bool agree(const struct work *w)
 {
     adk_answer l = w->call(&library), m = w->call(&model);
-    return l.r3 == w->r3 && l.r4 == w->r4 && l.r3 == m.r3 && l.r4 == m.r4 && l.r5 == m.r5 &&
+    uint64_t r4 = w->r4 == (uint64_t)THE_GUEST ? library.guest : w->r4;
+    return l.r3 == w->r3 && l.r4 == r4 && l.r3 == m.r3 && l.r4 == m.r4 && l.r5 == m.r5 &&
            library.at == model.at && library.len == model.len &&
-           memcmp(library.store, model.store, sizeof model.store) == 0 &&
+           memcmp(library.store, model.store, model.store_len) == 0 &&
            same_buffer(&library.buffer, &model.buffer) && same_buffer(&library.effect, &model.effect) &&
            memcmp(library.output, model.output, sizeof model.output) == 0 && same_cache(&library.cache, &model.cache);
 }

@@ -6,11 +6,10 @@
 #define CASES_H
 
 #include "l0.h"
+#include "store.h"
 
-#include <stdbool.h>
-
-/* The PVR that a filled store has, which is no logical PVR: the guest is offered all elements. */
-enum { ANY_PVR = 0 };
+/* The PVR that a filled store has, which is no logical PVR: the guest is offered all elements. As r4: the guest. */
+enum { ANY_PVR = 0, THE_GUEST = -1 };
 
 struct buffer;
 struct party; /* an L0 with its store and its buffers */
@@ -24,19 +23,28 @@ struct work {
     uint32_t pvr; /* the guest's logical PVR, or ANY_PVR */
 };
 
-/* In the store that is filled, the vCPU in the last slot, the only one of its guest: finding it, and testing the store,
-   take longest. */
-enum { GUEST = ADK_GUESTS, VCPU = ADK_VCPU_MAX };
+/* A case is a work on a store of one size: all on a small store, then those again that are lent one, on a large one. */
+struct measured {
+    const struct work *work;
+    enum size size;
+    char name[96];
+};
+
+/* In the store that is filled, the vCPU in the last slot is the only one of the last guest: finding it, and testing the
+   store, take longest. */
+enum { VCPU = ADK_VCPU_MAX };
 
 extern struct party library, model;
-extern const struct work WORK[];
-extern const size_t WORKS;
 
-/* Makes a store with every guest and every slot in use. */
+/* How many cases there are, and each, from 0. */
+size_t case_count(void);
+struct measured case_of(size_t number);
+
+/* Makes a store of the layout with every guest and every slot in use. */
 bool fill_store(uint8_t *store);
 
-/* Gives both sides the store, and the buffers of the work. */
-void prepare(const uint8_t *store, const struct work *w);
+/* Gives both sides a filled store of the case's size, and its buffers; false if the store could not be filled. */
+bool prepare(const struct measured *m);
 
 /* Makes one call on each side: whether both give the answer that the work names, and leave the same bytes. */
 bool agree(const struct work *w);

@@ -2,16 +2,17 @@
  * compare.c: makes long mixes of calls on the library and on the model, and compares every answer and every lent byte.
  *
  *     make target/bench/compare
- *     compare [--calls N] [--seed S | --seed fresh] [--quiet]
+ *     compare [--large] [--calls N] [--seed S | --seed fresh] [--quiet]
  *
- * A seed fixes the whole run; --calls only says where it ends. Lines 'passed compare NAME' or 'failed compare NAME' say
- * what was established:
+ * With --large it is a night of the large store, in which small ones are converted. A seed fixes the whole run; --calls
+ * only says where it ends. Lines 'passed compare SIZE NAME' or 'failed compare SIZE NAME' say what was established:
  *
  *     agreement   r3, r4, r5, the place of a value found, and all lent bytes are the same
  *     unchanged   a refusal changed no lent byte, and no call changed what it may only read
  *     guards      no byte beside lent memory changed
- *     order       each set of faults of a run, of get and set state, and of both hand-overs gave the answer of the one
- *                 that the scope puts first; once with an unlisted ID, once with one that a POWER9 guest lacks
+ *     order       each set of faults of a run, of get and set state, of both hand-overs and of a conversion gave the
+ *                 answer of the one that the scope puts first; once with an unlisted ID, once with one that a POWER9
+ *                 guest lacks
  *     coverage    each call gave each answer that it can give, 2 with each unsupported bit as r4, and no other; each
  *                 element was read and set where its access permits and refused where not, in a run's input and effect
  *                 too, for POWER9 guests and for others; what came after POWER9 was refused alone, with another size
@@ -21,12 +22,18 @@
  *                 edges; with each bitmap agreed, each and one that is not offered was asked for, while guests lived
  *                 and while none did; each element was present and absent in a form that was taken and in one that was
  *                 given back, forms with just one wrong part were refused for each part, and a taken vCPU was met by
- *                 each call that could mistake it
+ *                 each call that could mistake it; the last guest and the last slot were given and used by each call,
+ *                 and then there was none; stores with just one thing ill formed were refused for each, and lengths
+ *                 beside both sizes and between them
+ *     both        with --large: lists of calls gave the same answers and buffers on small stores and on their
+ *                 conversions (both.h)
  *
  * The run ends at the first difference.
  */
+#include "both.h"
 #include "chance.h"
 #include "lists.h"
+#include "met.h"
 #include "model.h"
 #include "tell.h"
 
@@ -59,7 +66,6 @@ enum scene {
     WIDE_GET,
     WIDE_SET,
     BOTH_BITS,
-    UNUSED_MARKED,
     SCENES
 };
 
@@ -75,13 +81,13 @@ static const char *const SCENE_NAME[SCENES] = {
     [WIDE_GET] = "a guest-wide get that names a taken vCPU",
     [WIDE_SET] = "a guest-wide set that names a taken vCPU",
     [BOTH_BITS] = "bits 0 and 1 together",
-    [UNUSED_MARKED] = "a store that is ill formed by a mark alone",
 };
 
 /* ---- The comparison ---- */
 
 struct run {
     uint64_t seed, calls, number;
+    enum size size;
     uint64_t agreed; /* before the call */
     bool named_taken, guest_taken, any_taken; /* before it: the vCPU it names, one of the guest it names, any */
     bool over;                                /* before it: the vCPU it names had bytes that are not zero */
@@ -105,6 +111,7 @@ struct run {
     bool wrong[PARTS];                  /* the parts that were alone wrong in a form that was refused */
     bool zeros[17];                     /* the sizes of values that were alone wrong */
     bool scenes[SCENES];
+    struct met_stores stores;
     struct taken {
         uint64_t guest;
         uint8_t form[ADK_FORM_MAX];
@@ -124,6 +131,11 @@ static const struct lengths *lengths_of(const struct kind *k)
     return k->hand != NO_HAND ? &FORM_LENGTHS : &BUFFER_LENGTHS;
 }
 
+static struct manner manner_of(const struct run *r)
+{
+    return (struct manner){ .large = r->size == LARGE };
+}
+
 /* What the call broke in this piece, or NULL. Where it holds, BEFORE is brought up to date. */
 static const char *broken(const struct call *c, enum piece p, bool accepted)
 {
@@ -141,13 +153,14 @@ static const char *broken(const struct call *c, enum piece p, bool accepted)
 static int report(const struct run *r, const char *name, const struct call *c, const adk_found *lib,
                   const adk_found *mdl)
 {
-    printf("failed compare %s\n  call %" PRIu64 ": ", name, r->number);
+    printf("failed compare %s %s\n  call %" PRIu64 ": ", LAYOUTS[r->size].name, name, r->number);
     print_call(stdout, c);
-    print_lent(&(struct telling){ stdout, c, lib, mdl, "model", 40 }, HEADER);
+    print_lent(&(struct telling){ stdout, c, lib, mdl, "model", 40 }, layout->header);
     print_answer(stdout, "library", c, lib);
     print_answer(stdout, "model", c, mdl);
     print_differing(stdout, c, lib->r3 != 0, "model", 1);
-    printf("  to repeat: compare --seed 0x%" PRIX64 " --calls %" PRIu64 "\n", r->seed, r->number);
+    printf("  to repeat: compare%s --seed 0x%" PRIX64 " --calls %" PRIu64 "\n", r->size == LARGE ? " --large" : "",
+           r->seed, r->number);
     return 1;
 }
 
@@ -255,7 +268,7 @@ static size_t bitmap_number(uint64_t bitmap)
 /* A bitmap that was judged, so the store is well formed. */
 static void note_bitmap(struct run *r, const struct call *c)
 {
-    bool alive = memory[BEFORE][STORE][LIVE] != 0;
+    bool alive = any_live(memory[BEFORE][STORE]);
     r->bitmaps[bitmap_number(r->agreed)][bitmap_number(c->n[1])][alive] = true;
 }
 
@@ -320,32 +333,19 @@ static void note_hand_over(struct run *r, const struct call *c, const adk_found 
 static void look_before(struct run *r, const struct call *c)
 {
     const uint8_t *s = memory[BEFORE][STORE];
-    unsigned slot = c->kind->use[STORE] == NOT_LENT ? ADK_SLOTS : slot_of(c);
-    bool used = slot < ADK_SLOTS;
-    const uint8_t *values = s + SLOT_VALUES + SLOT_SIZE * (used ? slot : 0);
+    unsigned slot = c->kind->use[STORE] == NOT_LENT ? layout->slots : slot_of(c);
+    bool used = slot < layout->slots;
+    const uint8_t *values = s + slot_at(used ? slot : 0);
     r->agreed = agreed();
     r->list = list_of(c->n[1]);
     look_at_lists(&r->lists, c);
     r->named_taken = used && is_marked(slot);
     r->over = used && (values[0] != 0 || memcmp(values, values + 1, SLOT_SIZE - 1) != 0);
     r->guest_taken = r->any_taken = false;
-    for (unsigned i = 0; i < ADK_SLOTS; i++) {
+    for (unsigned i = 0; i < layout->slots; i++) {
         r->any_taken |= is_marked(i);
-        r->guest_taken |= is_marked(i) && (adk_read_be(s + WORDS + 2 * i, 2) >> 11 & 15) == c->n[1];
+        r->guest_taken |= is_marked(i) && guest_in(word_in(s, i)) == c->n[1];
     }
-}
-
-/* Whether the store, refused as ill formed, is well formed but for marks on slots that are not used. */
-static bool ill_by_marks(const struct call *c)
-{
-    static uint8_t store[ADK_STORE_SIZE];
-    if (c->len[STORE] != ADK_STORE_SIZE)
-        return false;
-    memcpy(store, memory[BEFORE][STORE], sizeof store);
-    for (unsigned slot = 0; slot < ADK_SLOTS; slot++)
-        if (!is_used(slot))
-            put_mark(store, slot, false);
-    return mdl_get_capabilities(store, sizeof store, 0).r3 == ADK_OK;
 }
 
 /* Where another call meets a taken vCPU. */
@@ -359,8 +359,6 @@ static void note_scene(struct run *r, const struct call *c, const adk_found *f)
     r->scenes[WIDE_GET] |= k->wide && k->access == R && accepted && r->named_taken;
     r->scenes[WIDE_SET] |= k->wide && k->access == W && accepted && r->named_taken;
     r->scenes[BOTH_BITS] |= k->wide && f->r3 == ADK_BAD_FLAG && c->n[0] == (ADK_GUEST_WIDE | ADK_HAND_OVER);
-    if (f->r3 == ADK_BAD_STORE && !r->scenes[UNUSED_MARKED])
-        r->scenes[UNUSED_MARKED] = ill_by_marks(c);
 }
 
 /* ---- All that is noted ---- */
@@ -377,10 +375,13 @@ static size_t judged_length(const struct call *c, const adk_found *f)
     return c->len[run ? EFFECT : BUFFER];
 }
 
+/* In a night of the large store what is met on the small ones does not count, but for their conversions. */
 static void note(struct run *r, const struct call *c, const adk_found *f)
 {
     size_t k = (size_t)(c->kind - KINDS), len = judged_length(c, f);
     const struct lengths *lengths = lengths_of(c->kind);
+    if (layout != &LAYOUTS[r->size] && !converts(c->kind))
+        return;
     r->tally[k][f->r3]++;
     r->with_r4[k][f->r4 != 0] |= A(f->r3);
     r->with_r5[k] |= f->r5 != 0 ? A(f->r3) : 0;
@@ -390,6 +391,7 @@ static void note(struct run *r, const struct call *c, const adk_found *f)
         if (len == lengths->of[i])
             r->lengths[k] |= A(i);
     note_scene(r, c, f);
+    note_stores(&r->stores, c, f);
     note_lists(&r->lists, c, f);
     if (c->kind->hand != NO_HAND)
         note_hand_over(r, c, f);
@@ -480,20 +482,21 @@ static unsigned bad_id(enum list list)
     return list == POWER9 ? 0x1031 : 0x1054;
 }
 
-/* A store with vCPU 0 of guest 1, of this list, in the first slot, taken or not, and a call on it; with those of these
-   faults that all calls on a vCPU have. */
+/* A store with vCPU 0 of the last guest, of this list, in the last slot, taken or not, and a call on it; with those of
+   these faults that all calls on a vCPU have. */
 static void lend_faulty(struct call *c, unsigned faults, enum list list, bool taken)
 {
     uint8_t *s = memory[BEFORE][STORE];
-    memset(s, 0, ADK_STORE_SIZE);
-    s[LIVE] = 0x80;
-    s[ZERO] = (faults & A(ILL_FORMED)) != 0;
-    put_word(s, 0, word_of(1, 0));
-    put_mark(s, 0, taken);
-    put_pvr(1, list == POWER9 ? ADK_PVR_ARCH_300 : 0);
-    c->len[STORE] = ADK_STORE_SIZE;
+    unsigned guest = layout->guests, slot = layout->slots - 1;
+    memset(s, 0, layout->size);
+    put_live(s, guest, true);
+    put_live(s, guest + 1, (faults & A(ILL_FORMED)) != 0);
+    put_word(s, slot, word_of(guest, 0));
+    put_mark(s, slot, taken);
+    put_pvr(guest, list == POWER9 ? ADK_PVR_ARCH_300 : 0);
+    c->len[STORE] = layout->size;
     c->n[0] = faults & A(FLAG) ? ADK_BIT(3) : 0;
-    c->n[1] = faults & A(GUEST) ? 2 : 1;
+    c->n[1] = faults & A(GUEST) ? guest - 1 : guest;
     c->n[2] = faults & A(VCPU) ? 1 : 0;
 }
 
@@ -501,9 +504,9 @@ static void lend_faulty(struct call *c, unsigned faults, enum list list, bool ta
 static void faulty_run(struct call *c, unsigned faults, enum list list)
 {
     lend_faulty(c, faults, list, (faults & A(OWNER)) != 0);
-    put_registered_size(0, 0x0C00, faults & A(INPUT_UNREGISTERED) ? 3 : 28);
-    put_registered_size(0, 0x0C01, faults & A(OUTPUT_UNREGISTERED) ? 123 : 124);
-    share(STORE, 0, ADK_STORE_SIZE);
+    put_registered_size(layout->slots - 1, 0x0C00, faults & A(INPUT_UNREGISTERED) ? 3 : 28);
+    put_registered_size(layout->slots - 1, 0x0C01, faults & A(OUTPUT_UNREGISTERED) ? 123 : 124);
+    share(STORE, 0, layout->size);
     lend_two(c, INPUT, 0x1003, faults & A(INPUT_ELEMENT) ? bad_id(list) : 0x1004);
     lend_two(c, EFFECT, 0x1003, faults & A(EFFECT_ELEMENT) ? bad_id(list) : 0xF000);
     c->len[OUTPUT] = faults & A(OUTPUT_SHORT) ? 122 : 124;
@@ -514,7 +517,7 @@ static void faulty_run(struct call *c, unsigned faults, enum list list)
     c->n[3] = faults & A(EXIT) ? 0xC01 : 0xC00;
 }
 
-/* ---- And of get state, set state and the hand-overs ---- */
+/* ---- And of get state, set state, the hand-overs and a conversion ---- */
 
 /* Behind OWNER, with answers of their own: a length, and what the buffer holds, of which a take reads nothing. */
 enum { LENGTH = OWNER + 1, CONTENT, STATE_FAULTS };
@@ -523,6 +526,8 @@ enum { LENGTH = OWNER + 1, CONTENT, STATE_FAULTS };
 static unsigned faults_of(const struct kind *k)
 {
     unsigned all = A(STATE_FAULTS) - 1;
+    if (converts(k))
+        return A(ILL_FORMED) | A(LENGTH);
     if (k->hand == TAKING)
         all &= ~A(CONTENT);
     return k->wide ? all & ~(A(VCPU) | A(OWNER)) : all;
@@ -556,7 +561,7 @@ static void faulty_state(struct call *c, unsigned faults, enum list list)
 {
     bool taken = (faults & A(OWNER)) != 0;
     lend_faulty(c, faults, list, c->kind->hand == GIVING ? !taken : taken);
-    share(STORE, 0, ADK_STORE_SIZE);
+    share(STORE, 0, layout->size);
     lend_content(c, list, (faults & A(CONTENT)) != 0);
     if (faults & A(LENGTH))
         c->len[BUFFER] = c->kind->hand == NO_HAND ? 3 : c->kind->hand == TAKING ? ADK_FORM_MAX - 1 : ADK_FORM_MIN - 1;
@@ -564,6 +569,14 @@ static void faulty_state(struct call *c, unsigned faults, enum list list)
         c->n[0] |= ADK_GUEST_WIDE;
     if (c->kind->hand != NO_HAND)
         c->n[0] |= ADK_HAND_OVER;
+}
+
+/* A conversion of that store; the other faults are none of it. */
+static void faulty_conversion(struct call *c, unsigned faults, enum list list)
+{
+    lend_faulty(c, faults, list, (faults & A(OWNER)) != 0);
+    share(STORE, 0, layout->size);
+    c->len[TARGET] = ADK_LARGE_STORE_SIZE - ((faults & A(LENGTH)) != 0);
 }
 
 /* ---- All of them ---- */
@@ -580,6 +593,8 @@ static int compare_faults(struct run *r, struct call *c, unsigned faults, enum l
         answer = run ? FAULT_ANSWER[first] : state_answer(c->kind, first);
     if (run)
         faulty_run(c, faults, list);
+    else if (converts(c->kind))
+        faulty_conversion(c, faults, list);
     else
         faulty_state(c, faults, list);
     r->number++;
@@ -588,8 +603,10 @@ static int compare_faults(struct run *r, struct call *c, unsigned faults, enum l
 
 static int compare_sets(struct run *r, const struct kind *kind, enum list list)
 {
-    unsigned sets = is_run(kind) ? A(FAULTS) : kind->access != 0 || kind->hand != NO_HAND ? A(STATE_FAULTS) : 0;
+    bool judges = kind->access != 0 || kind->hand != NO_HAND || converts(kind);
+    unsigned sets = is_run(kind) ? A(FAULTS) : judges ? A(STATE_FAULTS) : 0;
     struct call c = { .kind = kind };
+    layout = &LAYOUTS[converts(kind) ? SMALL : r->size];
     for (unsigned faults = 0; faults < sets && r->number < r->calls; faults++)
         if (compare_faults(r, &c, faults, list) != 0)
             return 1;
@@ -600,7 +617,7 @@ static int compare_order(struct run *r)
 {
     for (enum list list = 0; list < LISTS; list++)
         for (size_t k = 0; k < KIND_COUNT; k++)
-            if (compare_sets(r, &KINDS[k], list) != 0)
+            if (is_made(&KINDS[k], manner_of(r)) && compare_sets(r, &KINDS[k], list) != 0)
                 return 1;
     return 0;
 }
@@ -609,7 +626,7 @@ static int compare_order(struct run *r)
 
 static int compare_mix(struct run *r)
 {
-    begin_night((struct manner){ .opaque = false });
+    begin_night(manner_of(r));
     while (r->number++ < r->calls) {
         struct call c = next_call(r->number);
         if (compare_call(r, &c, NULL) != 0)
@@ -801,11 +818,13 @@ static bool hand_overs_covered(const struct run *r)
 static int finish(const struct run *r)
 {
     if (!r->quiet)
-        print_tally(stdout, r->tally, (struct manner){ .opaque = false });
-    printf("passed compare agreement\npassed compare unchanged\npassed compare guards\npassed compare order\n");
-    bool all = true;
+        print_tally(stdout, r->tally, manner_of(r));
+    static const char *const established[] = { "agreement", "unchanged", "guards", "order" };
+    for (size_t i = 0; i < COUNT(established); i++)
+        printf("passed compare %s %s\n", LAYOUTS[r->size].name, established[i]);
+    bool all = stores_covered(&r->stores, manner_of(r));
     for (size_t k = 0; k < KIND_COUNT; k++)
-        all = covered(r, k) && all;
+        all = (!is_made(&KINDS[k], manner_of(r)) || covered(r, k)) && all;
     for (enum list list = 0; list < LISTS; list++) {
         all = elements_covered(r, list) && all;
         all = refusals_covered(r, list) && all;
@@ -816,13 +835,13 @@ static int finish(const struct run *r)
     all = clocks_covered(r) && all;
     all = bitmaps_covered(r) && all;
     all = hand_overs_covered(r) && all;
-    printf("%s compare coverage\n", all ? "passed" : "failed");
+    printf("%s compare %s coverage\n", all ? "passed" : "failed", LAYOUTS[r->size].name);
     return all ? 0 : 1;
 }
 
 static int usage(void)
 {
-    fprintf(stderr, "usage: compare [--calls N] [--seed S | --seed fresh] [--quiet]\n");
+    fprintf(stderr, "usage: compare [--large] [--calls N] [--seed S | --seed fresh] [--quiet]\n");
     return 2;
 }
 
@@ -832,6 +851,8 @@ static bool read_options(struct run *r, int argc, char **argv)
         bool more = i + 1 < argc;
         if (strcmp(argv[i], "--quiet") == 0)
             r->quiet = true;
+        else if (strcmp(argv[i], "--large") == 0)
+            r->size = LARGE;
         else if (more && strcmp(argv[i], "--seed") == 0 && read_seed(argv[i + 1], &r->seed))
             i++;
         else if (more && strcmp(argv[i], "--calls") == 0 && read_number(argv[i + 1], &r->calls))
@@ -842,15 +863,26 @@ static bool read_options(struct run *r, int argc, char **argv)
     return true;
 }
 
+/* Lists of calls on small stores and on their conversions, a tenth as many calls. */
+static int compare_both(const struct run *r)
+{
+    if (r->size != LARGE)
+        return 0;
+    bool same = same_on_both(r->calls / 10);
+    printf("%s compare large both\n", same ? "passed" : "failed");
+    return same ? 0 : 1;
+}
+
 int main(int argc, char **argv)
 {
     static struct run r = { .seed = SEED, .calls = 2000000 };
     if (!read_options(&r, argc, argv))
         return usage();
-    printf("compare: %" PRIu64 " calls, seed 0x%" PRIX64 "\n", r.calls, r.seed);
+    printf("compare: %" PRIu64 " calls of the %s store, seed 0x%" PRIX64 "\n", r.calls, LAYOUTS[r.size].name, r.seed);
     seed_chance(r.seed);
     make_memory();
     int result = compare_order(&r) != 0 || compare_mix(&r) != 0 ? 1 : finish(&r);
+    result |= compare_both(&r);
     free_memory();
     return result;
 }

@@ -18,7 +18,7 @@ enum { CALLS_MAX = 1000000 };
 
 static int usage(void)
 {
-    fprintf(stderr, "usage: count [library|model CASE CALLS], CASE from 1 to %zu, CALLS from 1 to %d\n", WORKS,
+    fprintf(stderr, "usage: count [library|model CASE CALLS], CASE from 1 to %zu, CALLS from 1 to %d\n", case_count(),
             CALLS_MAX);
     return 2;
 }
@@ -33,24 +33,18 @@ static size_t number(const char *text, size_t most)
 
 static int list(void)
 {
-    for (size_t i = 0; i < WORKS; i++)
-        puts(WORK[i].name);
+    for (size_t i = 0; i < case_count(); i++)
+        puts(case_of(i).name);
     return 0;
 }
 
-static int repeat(struct party *s, const struct work *w, size_t calls)
+static int repeat(struct party *s, const struct measured *m, size_t calls)
 {
-    static uint8_t store[ADK_STORE_SIZE];
-    if (!fill_store(store)) {
-        fprintf(stderr, "count: the store could not be filled\n");
-        return 1;
-    }
-    prepare(store, w);
-    bool same = agree(w);
+    bool same = prepare(m) && agree(m->work);
     for (size_t i = 0; i < calls; i++)
-        w->call(s);
-    if (!same || !agree(w)) {
-        fprintf(stderr, "count: library and model differ, or did other work, in: %s\n", w->name);
+        m->work->call(s);
+    if (!same || !agree(m->work)) {
+        fprintf(stderr, "count: library and model differ, or did other work, in: %s\n", m->name);
         return 1;
     }
     return 0;
@@ -63,8 +57,9 @@ int main(int argc, char **argv)
     if (argc != 4)
         return usage();
     struct party *s = strcmp(argv[1], "library") == 0 ? &library : strcmp(argv[1], "model") == 0 ? &model : NULL;
-    size_t which = number(argv[2], WORKS), calls = number(argv[3], CALLS_MAX);
+    size_t which = number(argv[2], case_count()), calls = number(argv[3], CALLS_MAX);
     if (s == NULL || which == 0 || calls == 0)
         return usage();
-    return repeat(s, &WORK[which - 1], calls);
+    struct measured m = case_of(which - 1);
+    return repeat(s, &m, calls);
 }

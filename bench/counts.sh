@@ -16,7 +16,7 @@ mapfile -t names < <("$program")
 # The entries of a side that are counted in a case. The model's cache makes calls, and those count as part of it.
 entries() {
     case ${names[$2 - 1]} in
-    cache,*) echo "${prefix[$1]}cache_*" ;;
+    *cache,*) echo "${prefix[$1]}cache_*" ;;
     *) echo "${prefix[$1]}*" ;;
     esac
 }

@@ -7,6 +7,12 @@ const char *const HAND_NAME[HANDS] = { "taken", "given back" };
 
 /* ---- Counting ---- */
 
+static void raise_to(uint64_t *most, uint64_t n)
+{
+    if (n > *most)
+        *most = n;
+}
+
 /* Counts the elements of an accepted buffer, or of an output; true if there was one other than the NOP. end is where
    the last one ends. */
 static bool note_elements(struct cover *v, enum list list, enum piece p, enum way way, uint64_t *end)
@@ -30,8 +36,7 @@ static void note_accepted(struct cover *v, enum list list, enum judged j, enum p
     v->accepted[j]++;
     if (!note_elements(v, list, p, way, &end))
         v->only_nops[j]++;
-    if (end > v->longest[j])
-        v->longest[j] = end;
+    raise_to(&v->longest[j], end);
 }
 
 /* Counts an accepted hand-over, by the form in the buffer. */
@@ -61,6 +66,19 @@ static void note_refused(struct cover *v, const struct call *c, const adk_found 
         v->refused[j][number]++;
 }
 
+/* How full the store is that an accepted call meets. */
+static void note_fullness(struct cover *v)
+{
+    const uint8_t *s = memory[BEFORE][STORE];
+    unsigned guests = 0, slots = 0;
+    for (unsigned guest = 1; guest <= layout->guests; guest++)
+        guests += has_live(s, guest);
+    for (unsigned slot = 0; slot < layout->slots; slot++)
+        slots += is_used(slot);
+    raise_to(&v->guests, guests);
+    raise_to(&v->slots, slots);
+}
+
 void note_cover(struct cover *v, const struct call *c, const adk_found *f)
 {
     enum list list = list_of(c->n[1]);
@@ -71,6 +89,8 @@ void note_cover(struct cover *v, const struct call *c, const adk_found *f)
         note_refused(v, c, f);
     if (f->r3 != ADK_OK)
         return;
+    if (c->kind->use[STORE] != NOT_LENT && c->kind != KINDS)
+        note_fullness(v);
     if (c->kind->access == R)
         note_accepted(v, list, GET_BUFFER, BUFFER, GOT);
     if (c->kind->access == W)
@@ -100,8 +120,9 @@ void add_cover(struct cover *to, const struct cover *from)
     add_numbers(to->accepted, from->accepted, JUDGED);
     add_numbers(to->only_nops, from->only_nops, JUDGED);
     for (int j = 0; j < JUDGED; j++)
-        if (from->longest[j] > to->longest[j])
-            to->longest[j] = from->longest[j];
+        raise_to(&to->longest[j], from->longest[j]);
+    raise_to(&to->guests, from->guests);
+    raise_to(&to->slots, from->slots);
     for (int h = 0; h < HANDS; h++) {
         to->handed[h].vcpus += from->handed[h].vcpus;
         to->handed[h].empty += from->handed[h].empty;

@@ -31,6 +31,7 @@ struct cover {
     struct handed {
         uint64_t vcpus, empty, full; /* how many; of these without any value, and with all */
     } handed[HANDS];
+    uint64_t guests, slots; /* how many guests were live at once, and how many slots in use, at most */
 };
 
 /* Counts a call that was made on the library's side and answered so. */

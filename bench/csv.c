@@ -100,6 +100,10 @@ static void rows_of_cover(FILE *to, const struct cover *v, struct manner manner)
         row(to, "vCPUs", HAND_NAME[h], "empty", v->handed[h].empty);
         row(to, "vCPUs", HAND_NAME[h], "full", v->handed[h].full);
     }
+    row(to, "fullest", "guests", "at once", v->guests);
+    row(to, "fullest", "guests", "of", layout_of_night(manner)->guests);
+    row(to, "fullest", "slots", "at once", v->slots);
+    row(to, "fullest", "slots", "of", layout_of_night(manner)->slots);
     for (enum way way = 0; way < WAYS; way++)
         rows_of_worth(to, v, way);
 }
@@ -109,6 +113,8 @@ void csv_score(FILE *to, const struct result *r)
     const struct figures *f = r->figures;
     fprintf(to, "section,subject,measure,number\n");
     row(to, "night", "seed", "number", r->order->seed);
+    row(to, "night", "store", "bytes", layout_of_night(r->order->manner)->size);
+    row(to, "night", "conversion", "scored", r->order->manner.large && !r->order->manner.no_conversion);
     row(to, "night", "calls", "made", f->made);
     row(to, "night", "calls", "agreed", f->agreed);
     row(to, "night", "calls", "not made", r->order->calls - f->made);

@@ -5,11 +5,16 @@
 
 #include <string.h>
 
-enum { LAST_SLOT = ADK_SLOTS - 1, UNLISTED = 0x3040, SOME_NOPS = 20, MOST_NOPS = 16383 };
+enum { UNLISTED = 0x3040, SOME_NOPS = 20, MOST_NOPS = 16383 };
 
-static uint8_t full_store[ADK_STORE_SIZE];
+static uint8_t full_store[ADK_LARGE_STORE_SIZE];
 static uint8_t full_form[ADK_FORM_MAX];
 static bool longest_buffers;
+
+static unsigned last_slot(void)
+{
+    return layout->slots - 1;
+}
 
 /* ---- A call that is accepted ---- */
 
@@ -27,7 +32,7 @@ static bool put_number(struct call *c, const char *name, uint64_t value)
 static void put_numbers(struct call *c)
 {
     put_number(c, "flags", c->kind->hand != NO_HAND ? ADK_HAND_OVER : c->kind->wide ? ADK_GUEST_WIDE : 0);
-    put_number(c, "guest", GUEST);
+    put_number(c, "guest", layout->guests);
     put_number(c, "vcpu", VCPU);
     put_number(c, "bitmap", agreed());
     put_number(c, "token", ADK_TOKEN);
@@ -38,7 +43,7 @@ static void put_numbers(struct call *c)
 /* Whether the piece is a guest state buffer that the call walks. */
 static bool is_walked(const struct call *c, enum piece p)
 {
-    return c->kind->use[p] != NOT_LENT && p != STORE && p != OUTPUT && c->kind->hand == NO_HAND;
+    return c->kind->use[p] != NOT_LENT && !is_store(p) && p != OUTPUT && c->kind->hand == NO_HAND;
 }
 
 /* Whether the lent length of the piece is judged: of a run's input what is registered counts. */
@@ -64,15 +69,15 @@ static uint8_t *last_element(enum piece p)
 /* The input ends at the registered size. */
 static void end_input(const struct call *c)
 {
-    put_registered_size(LAST_SLOT, ADK_GSID_RUN_INPUT, c->len[INPUT]);
+    put_registered_size(last_slot(), ADK_GSID_RUN_INPUT, c->len[INPUT]);
 }
 
 /* A vCPU with all 170 values is taken, or given back. */
 static void lend_form(struct call *c)
 {
-    memset(memory[BEFORE][STORE] + SLOT_VALUES + LAST_SLOT * SLOT_SIZE, 0xFF, SLOT_SIZE);
+    memset(memory[BEFORE][STORE] + slot_at(last_slot()), 0xFF, SLOT_SIZE);
     if (c->kind->hand == GIVING) {
-        put_mark(memory[BEFORE][STORE], LAST_SLOT, true);
+        put_mark(memory[BEFORE][STORE], last_slot(), true);
         memcpy(memory[BEFORE][BUFFER], full_form, sizeof full_form);
     }
     c->len[BUFFER] = longest_buffers ? ADK_BUFFER_MAX : ADK_FORM_MAX;
@@ -83,7 +88,7 @@ static void lend_buffers(struct call *c)
     if (c->kind->hand != NO_HAND)
         lend_form(c);
     for (int p = 0; p < PIECES; p++) {
-        struct build g = begin_build(p, access_in(c, p), c->kind->wide, list_of(GUEST));
+        struct build g = begin_build(p, access_in(c, p), c->kind->wide, list_of(layout->guests));
         if (!is_walked(c, p))
             continue;
         if (longest_buffers)
@@ -106,16 +111,17 @@ static void make_room(const struct call *c)
     uint8_t *s = memory[BEFORE][STORE];
     if (!(c->kind->answers & A(ADK_NOT_ENOUGH_RESOURCES)))
         return;
-    put_word(s, LAST_SLOT, 0);
+    put_word(s, last_slot(), 0);
     if (!(c->kind->answers & A(ADK_VCPU_EXISTS)))
-        s[LIVE] &= 0xFE;
+        put_live(s, layout->guests, false);
 }
 
 static struct call good_call(const struct kind *k)
 {
     struct call c = { .kind = k };
-    memcpy(memory[BEFORE][STORE], full_store, sizeof full_store);
-    c.len[STORE] = k->use[STORE] != NOT_LENT ? ADK_STORE_SIZE : 0;
+    memcpy(memory[BEFORE][STORE], full_store, layout->size);
+    c.len[STORE] = k->use[STORE] != NOT_LENT ? layout->size : 0;
+    c.len[TARGET] = k->use[TARGET] != NOT_LENT ? ADK_LARGE_STORE_SIZE : 0;
     put_numbers(&c);
     lend_buffers(&c);
     make_room(&c);
@@ -141,7 +147,7 @@ static bool hold_nops(struct call *c, enum piece p)
 /* The guest becomes a POWER9 one, and the buffers hold what it is offered. */
 static void become_power9(struct call *c)
 {
-    put_pvr(GUEST, ADK_PVR_ARCH_300);
+    put_pvr(layout->guests, ADK_PVR_ARCH_300);
     lend_buffers(c);
 }
 
@@ -165,15 +171,15 @@ static bool have_no_guest(struct call *c, enum piece p)
 {
     (void)c;
     if (p == STORE)
-        memset(memory[BEFORE][STORE] + LIVE, 0, HEADER - LIVE);
+        memset(memory[BEFORE][STORE] + LIVE, 0, layout->header - LIVE);
     return p == STORE;
 }
 
 /* The words of the last two slots are equal. A fresh store is made of any bytes. */
 static bool repeat_word(struct call *c, enum piece p)
 {
-    uint8_t *words = memory[BEFORE][STORE] + WORDS;
-    memcpy(words + 2 * LAST_SLOT, words + 2 * LAST_SLOT - 2, 2);
+    uint8_t *s = memory[BEFORE][STORE];
+    put_word(s, last_slot(), word_in(s, last_slot() - 1));
     return p == STORE && c->kind != KINDS;
 }
 
@@ -191,7 +197,7 @@ static bool name_absent(struct call *c, enum piece p)
 
 static bool leave_no_room(struct call *c, enum piece p)
 {
-    memcpy(memory[BEFORE][STORE], full_store, HEADER);
+    memcpy(memory[BEFORE][STORE], full_store, layout->header);
     put_number(c, "vcpu", VCPU - 1);
     return p == STORE;
 }
@@ -199,7 +205,7 @@ static bool leave_no_room(struct call *c, enum piece p)
 static bool create_again(struct call *c, enum piece p)
 {
     (void)c;
-    memcpy(memory[BEFORE][STORE], full_store, HEADER);
+    memcpy(memory[BEFORE][STORE], full_store, layout->header);
     return p == STORE;
 }
 
@@ -207,7 +213,7 @@ static bool turn_mark(struct call *c, enum piece p)
 {
     (void)c;
     if (p == STORE)
-        put_mark(memory[BEFORE][STORE], LAST_SLOT, !is_marked(LAST_SLOT));
+        put_mark(memory[BEFORE][STORE], last_slot(), !is_marked(last_slot()));
     return p == STORE;
 }
 
@@ -215,6 +221,18 @@ static bool lend_one_too_many(struct call *c, enum piece p)
 {
     c->len[p] = ADK_BUFFER_MAX + 1;
     return is_measured(c, p);
+}
+
+static bool lengthen_target(struct call *c, enum piece p)
+{
+    c->len[TARGET]++;
+    return p == TARGET;
+}
+
+/* A guest that is one too many. */
+static bool name_no_guest(struct call *c, enum piece p)
+{
+    return p == STORE && put_number(c, "guest", layout->guests + 1);
 }
 
 static bool lend_one_too_few(struct call *c, enum piece p)
@@ -302,9 +320,9 @@ static bool register_too_little(struct call *c, enum piece p)
 {
     (void)c;
     if (p == INPUT)
-        put_registered_size(LAST_SLOT, ADK_GSID_RUN_INPUT, ADK_BUFFER_MIN - 1);
+        put_registered_size(last_slot(), ADK_GSID_RUN_INPUT, ADK_BUFFER_MIN - 1);
     else
-        put_registered_size(LAST_SLOT, ADK_GSID_RUN_OUTPUT, ADK_RUN_OUTPUT_MIN - 1);
+        put_registered_size(last_slot(), ADK_GSID_RUN_OUTPUT, ADK_RUN_OUTPUT_MIN - 1);
     return p == INPUT || p == OUTPUT;
 }
 
@@ -339,13 +357,14 @@ static const struct change {
     { ADK_BAD_STORE, NULL, "the last slot word twice", NULL, 0, repeat_word },
     { ADK_BAD_STORE, NULL, "a store of one byte more", NULL, 0, lengthen_store },
     { ADK_BAD_FLAG, NULL, "flag bit 63", "flags", ADK_BIT(63), NULL },
-    { ADK_BAD_PARAMETER, NULL, "guest 9", "guest", ADK_GUESTS + 1, NULL },
+    { ADK_BAD_PARAMETER, NULL, "a guest past the last", NULL, 0, name_no_guest },
     { ADK_BAD_PARAMETER, "create_guest", "another token", "token", ADK_TOKEN - 1, NULL },
     { ADK_BAD_PARAMETER, "set_capabilities", "a bit that is not offered", "bitmap", ADK_BIT(63), NULL },
     { ADK_BAD_VCPU, NULL, "vCPU 2048", "vcpu", ADK_VCPU_MAX + 1, NULL },
     { ADK_BAD_VCPU, NULL, "an absent vCPU", NULL, 0, name_absent },
     { ADK_BAD_LENGTH, NULL, "65,537 bytes", NULL, 0, lend_one_too_many },
     { ADK_BAD_LENGTH, NULL, "a byte less than the least", NULL, 0, lend_one_too_few },
+    { ADK_BAD_LENGTH, NULL, "a target of one byte more", NULL, 0, lengthen_target },
     { ADK_INVALID_ELEMENT_ID, NULL, "the first ID", NULL, 0, spoil_first_id },
     { ADK_INVALID_ELEMENT_ID, NULL, "the last ID", NULL, 0, spoil_last_id },
     { ADK_INVALID_ELEMENT_ID, NULL, "a last ID that POWER9 lacks", NULL, 0, end_with_later },
@@ -383,24 +402,33 @@ static void try_change(const struct kind *k, const struct change *d, enum piece 
 /* The form of the vCPU in the last slot with all its values. */
 static bool fill_form(void)
 {
-    static uint8_t store[ADK_STORE_SIZE];
-    memcpy(store, full_store, sizeof store);
-    memset(store + SLOT_VALUES + LAST_SLOT * SLOT_SIZE, 0xFF, SLOT_SIZE);
-    return adk_get_state(store, sizeof store, ADK_HAND_OVER, GUEST, VCPU, full_form, sizeof full_form).r3 == ADK_OK;
+    static uint8_t store[ADK_LARGE_STORE_SIZE];
+    memcpy(store, full_store, layout->size);
+    memset(store + slot_at(last_slot()), 0xFF, SLOT_SIZE);
+    return adk_get_state(store, layout->size, ADK_HAND_OVER, layout->guests, VCPU, full_form, sizeof full_form).r3 ==
+           ADK_OK;
 }
 
-bool each_case(bool longest, try_case *try)
+static void try_all(const struct kind *k, try_case *try)
+{
+    for (const struct change *d = CHANGES; d < CHANGES + COUNT(CHANGES); d++) {
+        if (d->change == NULL)
+            try_change(k, d, PIECES, try);
+        for (int p = 0; p < PIECES && d->change != NULL; p++)
+            if (k->use[p] != NOT_LENT)
+                try_change(k, d, p, try);
+    }
+}
+
+/* Only a small store can be converted. */
+bool each_case(enum size size, bool longest, try_case *try)
 {
     longest_buffers = longest;
+    layout = &LAYOUTS[size];
     if (!fill_store(full_store) || !fill_form())
         return false;
     for (const struct kind *k = KINDS; k < KINDS + KIND_COUNT; k++)
-        for (const struct change *d = CHANGES; d < CHANGES + COUNT(CHANGES); d++) {
-            if (d->change == NULL)
-                try_change(k, d, PIECES, try);
-            for (int p = 0; p < PIECES && d->change != NULL; p++)
-                if (k->use[p] != NOT_LENT)
-                    try_change(k, d, p, try);
-        }
+        if (size == SMALL || !converts(k))
+            try_all(k, try);
     return true;
 }

@@ -23,15 +23,18 @@ static const struct entry {
     size_t at;
 } ENTRIES[] = { L0_ENTRIES(ENTRY) };
 
-/* Puts each entry into its place, and names all that are missing. */
-static void find_entries(void *handle, struct l0 *vendor, char *unfit)
+/* Puts each entry into its place, and names those that are missing: but a vendor may have no conversion. */
+static void find_entries(void *handle, struct l0 *vendor, struct desk *desk)
 {
     const char *before = "it does not export ";
+    char *unfit = desk->unfit;
     size_t told = 0;
     for (size_t i = 0; i < COUNT(ENTRIES); i++) {
         void *found = dlsym(handle, ENTRIES[i].name);
         memcpy((char *)vendor + ENTRIES[i].at, &found, sizeof found);
-        if (found == NULL && told < DESK_TEXT) {
+        if (ENTRIES[i].at == offsetof(struct l0, convert))
+            desk->lacks_conversion = found == NULL;
+        else if (found == NULL && told < DESK_TEXT) {
             told += (size_t)snprintf(unfit + told, DESK_TEXT - told, "%s%s", before, ENTRIES[i].name);
             before = ", ";
         }
@@ -78,7 +81,7 @@ static _Noreturn void host_vendor(const struct window *w, const char *path)
     if (handle == NULL)
         snprintf(desk->unfit, DESK_TEXT, "%s", dlerror());
     else
-        find_entries(handle, &vendor, desk->unfit);
+        find_entries(handle, &vendor, desk);
     for (;;) {
         tell_turn(&desk->done, number);
         await_turn(&desk->posted, ++number);

@@ -20,7 +20,7 @@ static unsigned differing_bytes(const struct call *c, bool ours)
         if (c->kind->use[p] == NOT_LENT)
             continue;
         if (!ours && !same_bytes(p, LIBRARY, OTHER, c->len[p]))
-            what |= A(p == STORE ? STORE_BYTES : BUFFER_BYTES);
+            what |= A(is_store(p) ? STORE_BYTES : BUFFER_BYTES);
         if (!outside_intact(c, p, LIBRARY) || (!ours && !outside_intact(c, p, OTHER)))
             what |= A(OUTSIDE);
     }
@@ -66,7 +66,8 @@ bool agrees(const struct made *m)
 bool keeps_something_else(const struct made *m)
 {
     bool accepted = m->ours.r3 == ADK_OK || m->theirs.r3 == ADK_OK;
+    bool changes = m->call.kind->use[STORE] == WRITTEN || m->call.kind->use[TARGET] == WRITTEN;
     if (!m->deed.returned || m->deed.what != 0)
         return true;
-    return m->answers_differ && accepted && m->call.kind->use[STORE] == WRITTEN;
+    return m->answers_differ && accepted && changes;
 }

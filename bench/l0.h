@@ -10,7 +10,7 @@
 /* X of each entry's name without adk_, in the order of adderknot.h. A new entry is added here. */
 #define L0_ENTRIES(X)                                                                           \
     X(fresh_store) X(get_capabilities) X(set_capabilities) X(create_guest) X(create_vcpu)       \
-    X(get_state) X(set_state) X(run_vcpu) X(delete_guest) X(guest_clock) X(lookup)
+    X(get_state) X(set_state) X(run_vcpu) X(delete_guest) X(guest_clock) X(convert) X(lookup)
 
 #define L0_POINTER(name) __typeof__(adk_##name) *name;
 

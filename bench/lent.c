@@ -6,10 +6,10 @@
 #include <stdlib.h>
 #include <string.h>
 
-const char *const PIECE_NAME[PIECES] = { "store", "buffer", "input", "output", "effect" };
+const char *const PIECE_NAME[PIECES] = { "store", "buffer", "input", "output", "effect", "target" };
 
 const size_t CAPACITY[PIECES] = {
-    STORE_CAPACITY, BUFFER_CAPACITY, BUFFER_CAPACITY, BUFFER_CAPACITY, BUFFER_CAPACITY
+    STORE_CAPACITY, BUFFER_CAPACITY, BUFFER_CAPACITY, BUFFER_CAPACITY, BUFFER_CAPACITY, STORE_CAPACITY
 };
 
 uint8_t *memory[SIDES][PIECES];

@@ -9,30 +9,21 @@
 #ifndef LENT_H
 #define LENT_H
 
-#include "adderknot_gsb.h"
-
-#include <stdbool.h>
+#include "store.h"
 
 #define COUNT(a) (sizeof(a) / sizeof((a)[0]))
 
 enum side { LIBRARY, OTHER, BEFORE, SIDES };
-enum piece { STORE, BUFFER, INPUT, OUTPUT, EFFECT, PIECES };
+enum piece { STORE, BUFFER, INPUT, OUTPUT, EFFECT, TARGET, PIECES }; /* TARGET is a conversion's */
 
-/* The store is also lent 65,536 bytes too long, which a length kept in 16 bits would not see. */
-enum { GUARD = 61, STORE_CAPACITY = ADK_STORE_SIZE + 65536, BUFFER_CAPACITY = ADK_BUFFER_MAX + 4096 };
+/* A store is also lent 65,536 bytes too long, which a length kept in 16 bits would not see. */
+enum { GUARD = 61, STORE_CAPACITY = ADK_LARGE_STORE_SIZE + 65536, BUFFER_CAPACITY = ADK_BUFFER_MAX + 4096 };
 
-/* Positions in the store, for choosing numbers and doing damage. */
-enum {
-    LIVE = 8,
-    ZERO = 9,
-    WORDS = 10,
-    MARKS = 42,
-    HEADER = 44,
-    GUEST_SIZE = 52,
-    TB_OFFSET = 4,
-    SLOT_VALUES = 460,
-    SLOT_SIZE = 1820
-};
+/* Whether the piece is a store. */
+static inline bool is_store(enum piece p)
+{
+    return p == STORE || p == TARGET;
+}
 
 extern const char *const PIECE_NAME[PIECES];
 extern const size_t CAPACITY[PIECES];

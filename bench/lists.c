@@ -50,7 +50,7 @@ static enum pvr pvr_kind(uint32_t pvr)
 static struct kept_later *kept_of(struct lists *l, const struct call *c)
 {
     unsigned slot = slot_of(c);
-    if (slot == ADK_SLOTS)
+    if (slot == layout->slots)
         return NULL;
     struct kept_later *k = &l->kept[slot];
     unsigned word = word_of(c->n[1], (unsigned)c->n[2]);

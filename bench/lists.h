@@ -28,7 +28,7 @@ struct lists {
     struct kept_later {
         unsigned word; /* of the slot, so that it is the same vCPU */
         enum { NOTHING, SET_BEFORE, POWER9_SINCE } stage;
-    } kept[ADK_SLOTS];
+    } kept[SLOTS_MOST];
 };
 
 /* Before a call: looks at the guest that it names. After it, where both sides gave this answer: what was met. */

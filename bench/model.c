@@ -1,6 +1,6 @@
 /*
  * model.c: the rules of document 01 in plain C, as the requests of 02 amend them. It shares no text with the library,
- * so that a mistake in either shows as a difference. Quoted names are sections of 01; L1, L2, L4, L7 and L12 are
+ * so that a mistake in either shows as a difference. Quoted names are sections of 01; L1, L2, L4, L6, L7 and L12 are
  * requests of 02.
  */
 #include "model.h"
@@ -8,27 +8,40 @@
 #include <stdbool.h>
 #include <string.h>
 
-/* "The store": where the fields are; L1 puts two bytes of marks behind the slot words, and values move by two. */
+/* "The store", what both sizes have: capabilities and live guests at the same place, the values of a guest and of a
+   slot laid out alike, vCPU ids of 11 bits. */
 enum {
-    STORE_SIZE = 29580,
     CAPABILITIES = 0,
     LIVE = 8,
-    ZERO = 9,
-    WORDS = 10,
-    GUESTS = 8,
-    SLOTS = 16,
-    MARKS = 42,
-    GUEST_VALUES = 44,
     GUEST_SIZE = 52,
     PVR = 0,
     TB_OFFSET = 4,
-    SLOT_VALUES = 460,
     SLOT_SIZE = 1820,
+    SLOTS_MOST = 64,
+    VCPU_BITS = 11,
     VCPU_MAX = 2047
 };
 
-/* "The store", a slot word: used (1 bit), guest id (4), vCPU id (11). */
-enum { USED = 0x8000, GUEST_SHIFT = 11, GUEST_MASK = 15 };
+/* "The store", and L6's large one: where the fields are, and how many guests and slots there are. */
+struct layout {
+    size_t size;
+    unsigned guests, slots, guest_bits;
+    unsigned live_bytes; /* a bit for each guest; those behind the last guest's are zero */
+    size_t marks, words, guest_values, slot_values;
+};
+
+/* L1 puts two bytes of marks behind the slot words, and values move by two. */
+static const struct layout SMALL = {
+    .size = 29580, .guests = 8, .slots = 16, .guest_bits = 4, .live_bytes = 2,
+    .words = 10, .marks = 42, .guest_values = 44, .slot_values = 460
+};
+
+/* L6: "capabilities 8 bytes, live guests 8 (guest 1 first, last bit zero), taken marks 8, slot words 144, then 52 bytes
+   per guest and 1,820 per slot: 119,924 bytes". */
+static const struct layout LARGE = {
+    .size = 119924, .guests = 63, .slots = 64, .guest_bits = 6, .live_bytes = 8,
+    .marks = 16, .words = 24, .guest_values = 168, .slot_values = 3444
+};
 
 /* "The store": offered are bits 1 and 2, 0x6000000000000000. */
 static const uint64_t OFFERED = UINT64_C(0x6000000000000000);
@@ -90,73 +103,155 @@ static adk_answer answer(uint64_t r3, uint64_t r4)
     return (adk_answer){ r3, r4, 0 };
 }
 
-/* "The store", byte 8: the live guests 1 to 8, guest 1 first. */
-static bool live(const uint8_t *s, uint64_t guest)
+/* Fields are packed most significant first: bit 0 is the most significant of the first byte. */
+static bool bit(const uint8_t *p, unsigned n)
 {
-    return guest >= 1 && guest <= GUESTS && (s[LIVE] >> (GUESTS - guest) & 1) != 0;
+    return (p[n / 8] >> (7 - n % 8) & 1) != 0;
 }
 
-static unsigned word(const uint8_t *s, unsigned slot)
+static void put_bit(uint8_t *p, unsigned n, bool one)
 {
-    return load16(s + WORDS + 2 * slot);
+    uint8_t mask = (uint8_t)(0x80 >> n % 8);
+    p[n / 8] = one ? p[n / 8] | mask : p[n / 8] & (uint8_t)~mask;
 }
 
-static unsigned guest_of(unsigned w)
+/* "The store": the live guests, guest 1 first, and the bits behind them, as the first of 64. */
+static uint64_t live_bits(const struct layout *l, const uint8_t *s)
 {
-    return w >> GUEST_SHIFT & GUEST_MASK;
+    return load64(s + LIVE) & UINT64_MAX << (64 - 8 * l->live_bytes);
+}
+
+static bool live(const struct layout *l, const uint8_t *s, uint64_t guest)
+{
+    return guest >= 1 && guest <= l->guests && live_bits(l, s) << (guest - 1) >> 63 != 0;
+}
+
+/* A slot word, from the most significant bit down: used (1 bit), guest id, vCPU id (11). */
+static uint32_t word_of(const struct layout *l, uint64_t guest, uint64_t vcpu)
+{
+    return (uint32_t)(UINT64_C(1) << l->guest_bits | guest) << VCPU_BITS | (uint32_t)vcpu;
+}
+
+static bool used(const struct layout *l, uint32_t w)
+{
+    return w >> (l->guest_bits + VCPU_BITS) != 0;
+}
+
+static unsigned guest_of(const struct layout *l, uint32_t w)
+{
+    return w >> VCPU_BITS & ((1u << l->guest_bits) - 1);
+}
+
+/* Words follow each other without gaps, so one of 18 bits begins within a byte. */
+static unsigned width(const struct layout *l)
+{
+    return 1 + l->guest_bits + VCPU_BITS;
+}
+
+static inline uint32_t word(const struct layout *l, const uint8_t *s, unsigned slot)
+{
+    unsigned at = width(l) * slot;
+    if (width(l) == 16)
+        return load16(s + l->words + 2 * slot);
+    return load32(s + l->words + at / 8) << at % 8 >> (32 - width(l));
+}
+
+static void put_word(const struct layout *l, uint8_t *s, unsigned slot, uint32_t w)
+{
+    unsigned at = width(l) * slot, behind = 32 - width(l) - at % 8;
+    uint8_t *p = s + l->words + at / 8;
+    uint32_t others = load32(p) & ~(((UINT32_C(1) << width(l)) - 1) << behind);
+    store32(p, others | w << behind);
 }
 
 /* "The guest state buffer", value rules: the logical PVRs. */
 enum { PVR_POWER9 = 0x0F000005, PVR_POWER10 = 0x0F000006 };
 
+/* Where the values of a guest begin, and those of a slot. */
+static size_t guest_at(const struct layout *l, uint64_t guest)
+{
+    return l->guest_values + GUEST_SIZE * (guest - 1);
+}
+
+static size_t slot_at(const struct layout *l, unsigned slot)
+{
+    return l->slot_values + SLOT_SIZE * slot;
+}
+
 /* 02, L7: "the guest's PVR at the start of the call decides". The guest is live. */
-static bool is_power9(const uint8_t *s, uint64_t guest)
+static bool is_power9(const struct layout *l, const uint8_t *s, uint64_t guest)
 {
-    return load32(s + GUEST_VALUES + GUEST_SIZE * (guest - 1) + PVR) == PVR_POWER9;
+    return load32(s + guest_at(l, guest) + PVR) == PVR_POWER9;
 }
 
-/* L1: the taken mark of a slot, a bit of two bytes, slot 0 the most significant. */
-static bool marked(const uint8_t *s, unsigned slot)
+/* L1: the taken mark of a slot, slot 0 the first bit. */
+static bool marked(const struct layout *l, const uint8_t *s, unsigned slot)
 {
-    return (load16(s + MARKS) >> (SLOTS - 1 - slot) & 1) != 0;
+    return load64(s + l->marks) << slot >> 63 != 0;
 }
 
-static void put_mark(uint8_t *s, unsigned slot, bool mark)
+static void put_mark(const struct layout *l, uint8_t *s, unsigned slot, bool mark)
 {
-    unsigned bit = 1u << (SLOTS - 1 - slot), marks = load16(s + MARKS);
-    store16(s + MARKS, mark ? marks | bit : marks & ~bit);
+    put_bit(s + l->marks, slot, mark);
 }
 
-/* How many of the words are w. */
-static unsigned times(const uint16_t *words, uint16_t w)
+/*
+ * What goes over all slot words is in line at every use, with a layout that is known there: speed.c measures the
+ * library by this code, and the compiler makes the better loop where it knows how many words there are.
+ */
+#define KNOWN __attribute__((always_inline)) static inline
+
+/* How many of the numbers, the last 16 bits of each word, are those of w. */
+KNOWN unsigned alike(const struct layout *l, const uint16_t *last, uint32_t w)
 {
     uint16_t n = 0;
-    for (unsigned i = 0; i < SLOTS; i++)
-        n += words[i] == w;
+    for (unsigned i = 0; i < l->slots; i++)
+        n += last[i] == (uint16_t)w;
     return n;
 }
 
-/* "The store", well formed: each used word names a live guest, no two the same pair, unused words zero; L1: no mark on
-   an unused slot. */
-static bool words_well_formed(const uint8_t *s)
+/* Whether another slot has the word of this one. */
+static bool is_repeated(const struct layout *l, const uint8_t *s, unsigned slot)
 {
-    uint16_t words[SLOTS];
-    for (unsigned slot = 0; slot < SLOTS; slot++)
-        words[slot] = (uint16_t)word(s, slot);
-    for (unsigned slot = 0; slot < SLOTS; slot++) {
-        uint16_t w = words[slot];
-        if (w == 0 && marked(s, slot))
+    for (unsigned i = 0; i < l->slots; i++)
+        if (i != slot && word(l, s, i) == word(l, s, slot))
+            return true;
+    return false;
+}
+
+/* "The store", well formed: each used word names a live guest, no two the same pair, unused words zero; L1: no mark on
+   an unused slot. The last 16 bits are all of a small store's word, and tell most words of a large one apart. */
+KNOWN bool words_well_formed(const struct layout *l, const uint8_t *s)
+{
+    uint16_t last[SLOTS_MOST];
+    for (unsigned slot = 0; slot < l->slots; slot++)
+        last[slot] = (uint16_t)word(l, s, slot);
+    for (unsigned slot = 0; slot < l->slots; slot++) {
+        uint32_t w = word(l, s, slot);
+        if (w == 0 && marked(l, s, slot))
             return false;
-        if (w != 0 && (!(w & USED) || !live(s, guest_of(w)) || times(words, w) != 1))
+        if (w != 0 && (!used(l, w) || !live(l, s, guest_of(l, w))))
+            return false;
+        if (w != 0 && alike(l, last, w) > 1 && is_repeated(l, s, slot))
             return false;
     }
     return true;
 }
 
-/* "The store", well formed: right length, byte 9 zero, no capability but bits 1 and 2, and the words. */
-static bool well_formed(const uint8_t *s, size_t len)
+/* "The store", well formed: byte 9 zero, L6: the last live bit zero; no capability but bits 1 and 2, and the words. */
+KNOWN bool well_formed(const struct layout *l, const uint8_t *s)
 {
-    return len == STORE_SIZE && s[ZERO] == 0 && (load64(s + CAPABILITIES) & ~OFFERED) == 0 && words_well_formed(s);
+    return live_bits(l, s) << l->guests == 0 && (load64(s + CAPABILITIES) & ~OFFERED) == 0 && words_well_formed(l, s);
+}
+
+/* L6: "Both sizes stay in use and are told apart by length." The layout of a well-formed store, or NULL. */
+static const struct layout *layout_of(const uint8_t *s, size_t len)
+{
+    if (len == SMALL.size)
+        return well_formed(&SMALL, s) ? &SMALL : NULL;
+    if (len == LARGE.size)
+        return well_formed(&LARGE, s) ? &LARGE : NULL;
+    return NULL;
 }
 
 /* "Answers", 2: R4 is the lowest-numbered bad bit, so of two bad bits the more significant. bad is not 0. */
@@ -168,16 +263,16 @@ static adk_answer bad_flag(uint64_t bad)
 /* "The store": a fresh store is all zeros; a buffer of another length is 1. */
 adk_answer mdl_fresh_store(uint8_t *store, size_t store_len)
 {
-    if (store_len != STORE_SIZE)
+    if (store_len != SMALL.size && store_len != LARGE.size)
         return answer(1, 0);
-    memset(store, 0, STORE_SIZE);
+    memset(store, 0, store_len);
     return answer(0, 0);
 }
 
 /* "Answers", others 1, 2, 3, and 0: get capabilities gives the bitmap that is offered. */
 adk_answer mdl_get_capabilities(const uint8_t *store, size_t store_len, uint64_t flags)
 {
-    if (!well_formed(store, store_len))
+    if (layout_of(store, store_len) == NULL)
         return answer(1, 0);
     if (flags != 0)
         return bad_flag(flags);
@@ -188,13 +283,14 @@ adk_answer mdl_get_capabilities(const uint8_t *store, size_t store_len, uint64_t
    bitmap equals the agreed one. "The store": set stores the bitmap. */
 adk_answer mdl_set_capabilities(uint8_t *store, size_t store_len, uint64_t flags, uint64_t bitmap)
 {
-    if (!well_formed(store, store_len))
+    const struct layout *l = layout_of(store, store_len);
+    if (l == NULL)
         return answer(1, 0);
     if (flags != 0)
         return bad_flag(flags);
     if ((bitmap & ~OFFERED) != 0)
         return answer(3, 1);
-    if (store[LIVE] != 0 && bitmap != load64(store + CAPABILITIES))
+    if (live_bits(l, store) != 0 && bitmap != load64(store + CAPABILITIES))
         return answer(21, 0);
     store64(store + CAPABILITIES, bitmap);
     return answer(0, 0);
@@ -203,51 +299,58 @@ adk_answer mdl_set_capabilities(uint8_t *store, size_t store_len, uint64_t flags
 /* "Answers", create guest 1, 2, 3, 9. "The store": create takes the lowest free id and zeroes its values. */
 adk_answer mdl_create_guest(uint8_t *store, size_t store_len, uint64_t flags, uint64_t token)
 {
-    if (!well_formed(store, store_len))
+    const struct layout *l = layout_of(store, store_len);
+    if (l == NULL)
         return answer(1, 0);
     if (flags != 0)
         return bad_flag(flags);
     if (token != UINT64_MAX)
         return answer(3, 0);
-    for (unsigned guest = 1; guest <= GUESTS; guest++)
-        if (!live(store, guest)) {
-            store[LIVE] |= (uint8_t)(1u << (GUESTS - guest));
-            memset(store + GUEST_VALUES + GUEST_SIZE * (guest - 1), 0, GUEST_SIZE);
+    for (unsigned guest = 1; guest <= l->guests; guest++)
+        if (!live(l, store, guest)) {
+            put_bit(store + LIVE, guest - 1, true);
+            memset(store + guest_at(l, guest), 0, GUEST_SIZE);
             return answer(0, guest);
         }
     return answer(9, 0);
 }
 
-/* The first slot that holds the word, or SLOTS. */
-static unsigned slot_with(const uint8_t *s, unsigned w)
+/* The first slot that holds the word, or the number of slots. */
+KNOWN unsigned slot_in(const struct layout *l, const uint8_t *s, uint32_t w)
 {
     unsigned slot = 0;
-    while (slot < SLOTS && word(s, slot) != w)
+    while (slot < l->slots && word(l, s, slot) != w)
         slot++;
     return slot;
+}
+
+static unsigned slot_with(const struct layout *l, const uint8_t *s, uint32_t w)
+{
+    return l == &SMALL ? slot_in(&SMALL, s, w) : slot_in(&LARGE, s, w);
 }
 
 /* "Answers", create vCPU 1, 2, 3, 4, 10, 9. "The store": create takes the lowest free slot and zeroes its values; L1:
    it clears its mark. */
 adk_answer mdl_create_vcpu(uint8_t *store, size_t store_len, uint64_t flags, uint64_t guest, uint64_t vcpu)
 {
-    if (!well_formed(store, store_len))
+    const struct layout *l = layout_of(store, store_len);
+    if (l == NULL)
         return answer(1, 0);
     if (flags != 0)
         return bad_flag(flags);
-    if (!live(store, guest))
+    if (!live(l, store, guest))
         return answer(3, 0);
     if (vcpu > VCPU_MAX)
         return answer(4, 0);
-    unsigned w = USED | (unsigned)guest << GUEST_SHIFT | (unsigned)vcpu;
-    if (slot_with(store, w) < SLOTS)
+    uint32_t w = word_of(l, guest, vcpu);
+    if (slot_with(l, store, w) < l->slots)
         return answer(10, 0);
-    unsigned slot = slot_with(store, 0);
-    if (slot == SLOTS)
+    unsigned slot = slot_with(l, store, 0);
+    if (slot == l->slots)
         return answer(9, 0);
-    store16(store + WORDS + 2 * slot, w);
-    put_mark(store, slot, false);
-    memset(store + SLOT_VALUES + SLOT_SIZE * slot, 0, SLOT_SIZE);
+    put_word(l, store, slot, w);
+    put_mark(l, store, slot, false);
+    memset(store + slot_at(l, slot), 0, SLOT_SIZE);
     return answer(0, 0);
 }
 
@@ -408,31 +511,41 @@ static inline struct verdict first_bad(const uint8_t *buffer, size_t len, unsign
 /* Whose values a call is about: a guest's, those of a vCPU that is not taken, or of one that is (L1). */
 enum whose { GUESTS_OWN, KEPT, TAKEN };
 
-/*
- * "Answers", the tests 1, 2, 3 and 4 of get and set state and run; guest-wide the vCPU id is ignored. L1: 16 after 4,
- * never guest-wide. After 0, *values is where in the store the guest's or the vCPU's values begin.
- */
-static adk_answer target(const uint8_t *s, size_t len, uint64_t bad_flags, enum whose whose, uint64_t guest,
-                         uint64_t vcpu, size_t *values)
+/* The layout of the store, and where in it the guest's or the vCPU's values begin; of a vCPU also its slot. */
+struct target {
+    const struct layout *l;
+    size_t values;
+    unsigned slot;
+};
+
+/* "Answers", the test 4; L1: 16 after it. The guest is live. */
+static adk_answer target_vcpu(const uint8_t *s, bool taken, uint64_t guest, uint64_t vcpu, struct target *t)
 {
-    if (!well_formed(s, len))
+    if (vcpu > VCPU_MAX)
+        return answer(4, 0);
+    t->slot = slot_with(t->l, s, word_of(t->l, guest, vcpu));
+    if (t->slot == t->l->slots)
+        return answer(4, 0);
+    if (marked(t->l, s, t->slot) != taken)
+        return answer(16, 0);
+    t->values = slot_at(t->l, t->slot);
+    return answer(0, 0);
+}
+
+/* "Answers", the tests 1, 2, 3 and 4 of get and set state and run; guest-wide the vCPU id is ignored. L1: 16 after 4,
+   never guest-wide. After 0 the target is filled in. */
+static adk_answer target(const uint8_t *s, size_t len, uint64_t bad_flags, enum whose whose, uint64_t guest,
+                         uint64_t vcpu, struct target *t)
+{
+    t->l = layout_of(s, len);
+    if (t->l == NULL)
         return answer(1, 0);
     if (bad_flags != 0)
         return bad_flag(bad_flags);
-    if (!live(s, guest))
+    if (!live(t->l, s, guest))
         return answer(3, 0);
-    *values = GUEST_VALUES + GUEST_SIZE * (guest - 1);
-    if (whose != GUESTS_OWN) {
-        if (vcpu > VCPU_MAX)
-            return answer(4, 0);
-        unsigned slot = slot_with(s, USED | (unsigned)guest << GUEST_SHIFT | (unsigned)vcpu);
-        if (slot == SLOTS)
-            return answer(4, 0);
-        if (marked(s, slot) != (whose == TAKEN))
-            return answer(16, 0);
-        *values = SLOT_VALUES + SLOT_SIZE * slot;
-    }
-    return answer(0, 0);
+    t->values = guest_at(t->l, guest);
+    return whose == GUESTS_OWN ? answer(0, 0) : target_vcpu(s, whose == TAKEN, guest, vcpu, t);
 }
 
 /* "Answers", 5, and 14 with R4 and R5 0: a buffer under 4 or over 65,536 bytes. */
@@ -449,14 +562,14 @@ static uint64_t bad_state_flags(uint64_t flags)
 
 /* "Answers", get and set state 1, 2, 3, 4, 5, then the elements; a good buffer's verdict is all zeros. */
 static inline adk_answer judge_state(const uint8_t *s, size_t len, uint64_t flags, uint64_t guest, uint64_t vcpu,
-                                     const uint8_t *buffer, size_t buffer_len, unsigned wanted, size_t *values)
+                                     const uint8_t *buffer, size_t buffer_len, unsigned wanted, struct target *t)
 {
-    adk_answer a = target(s, len, bad_state_flags(flags), flags != 0 ? GUESTS_OWN : KEPT, guest, vcpu, values);
+    adk_answer a = target(s, len, bad_state_flags(flags), flags != 0 ? GUESTS_OWN : KEPT, guest, vcpu, t);
     if (a.r3 != 0)
         return a;
     if (bad_length(buffer_len))
         return answer(5, 0);
-    struct verdict v = first_bad(buffer, buffer_len, wanted, is_power9(s, guest), load64(s + CAPABILITIES));
+    struct verdict v = first_bad(buffer, buffer_len, wanted, is_power9(t->l, s, guest), load64(s + CAPABILITIES));
     return index_and_offset(v);
 }
 
@@ -512,14 +625,12 @@ static void apply(uint8_t *values, const uint8_t *buffer)
 /* L1: whether thread element e is present in a form; and that it is. */
 static bool present(const uint8_t *form, unsigned e)
 {
-    unsigned bit = PRESENCE + e;
-    return (form[bit / 8] >> (7 - bit % 8) & 1) != 0;
+    return bit(form, PRESENCE + e);
 }
 
 static void put_present(uint8_t *form, unsigned e)
 {
-    unsigned bit = PRESENCE + e;
-    form[bit / 8] |= (uint8_t)(0x80 >> bit % 8);
+    put_bit(form, PRESENCE + e, true);
 }
 
 /* "The store": the size of thread element e, from 0 to 169 in order of ID. They are in a slot without gaps. */
@@ -601,26 +712,20 @@ static void read_form(uint8_t *values, const uint8_t *form)
     }
 }
 
-/* The slot whose values begin there. */
-static unsigned slot_at(size_t values)
-{
-    return (unsigned)((values - SLOT_VALUES) / SLOT_SIZE);
-}
-
 /* L1, taking: 1, 2, 3, 4, 16, 5. The form stands in the buffer's first bytes, the rest of it stays; the values are
    zeroed. */
 static adk_answer take(uint8_t *s, size_t len, uint64_t flags, uint64_t guest, uint64_t vcpu, uint8_t *buffer,
                        size_t buffer_len)
 {
-    size_t values;
-    adk_answer a = target(s, len, bad_state_flags(flags), KEPT, guest, vcpu, &values);
+    struct target t;
+    adk_answer a = target(s, len, bad_state_flags(flags), KEPT, guest, vcpu, &t);
     if (a.r3 != 0)
         return a;
     if (buffer_len < FORM_MAX || buffer_len > 65536)
         return answer(5, 0);
-    write_form(buffer, (unsigned)vcpu, s + values);
-    memset(s + values, 0, SLOT_SIZE);
-    put_mark(s, slot_at(values), true);
+    write_form(buffer, (unsigned)vcpu, s + t.values);
+    memset(s + t.values, 0, SLOT_SIZE);
+    put_mark(t.l, s, t.slot, true);
     return answer(0, 0);
 }
 
@@ -628,16 +733,16 @@ static adk_answer take(uint8_t *s, size_t len, uint64_t flags, uint64_t guest, u
 static adk_answer give_back(uint8_t *s, size_t len, uint64_t flags, uint64_t guest, uint64_t vcpu,
                             const uint8_t *buffer, size_t buffer_len)
 {
-    size_t values;
-    adk_answer a = target(s, len, bad_state_flags(flags), TAKEN, guest, vcpu, &values);
+    struct target t;
+    adk_answer a = target(s, len, bad_state_flags(flags), TAKEN, guest, vcpu, &t);
     if (a.r3 != 0)
         return a;
     if (buffer_len < FORM_MIN || buffer_len > 65536)
         return answer(5, 0);
     if (!begins_with_form(buffer, buffer_len, vcpu))
         return answer(17, 0);
-    read_form(s + values, buffer);
-    put_mark(s, slot_at(values), false);
+    read_form(s + t.values, buffer);
+    put_mark(t.l, s, t.slot, false);
     return answer(0, 0);
 }
 
@@ -651,13 +756,13 @@ static bool hands_over(uint64_t flags)
 adk_answer mdl_get_state(uint8_t *store, size_t store_len, uint64_t flags, uint64_t guest, uint64_t vcpu,
                          uint8_t *buffer, size_t buffer_len)
 {
-    size_t values;
+    struct target t;
     if (hands_over(flags))
         return take(store, store_len, flags, guest, vcpu, buffer, buffer_len);
     adk_answer a = judge_state(store, store_len, flags, guest, vcpu, buffer, buffer_len,
-                               flags != 0 ? GUEST_R : THREAD_R, &values);
+                               flags != 0 ? GUEST_R : THREAD_R, &t);
     if (a.r3 == 0)
-        fill(buffer, store + values);
+        fill(buffer, store + t.values);
     return a;
 }
 
@@ -665,13 +770,13 @@ adk_answer mdl_get_state(uint8_t *store, size_t store_len, uint64_t flags, uint6
 adk_answer mdl_set_state(uint8_t *store, size_t store_len, uint64_t flags, uint64_t guest, uint64_t vcpu,
                          const uint8_t *buffer, size_t buffer_len)
 {
-    size_t values;
+    struct target t;
     if (hands_over(flags))
         return give_back(store, store_len, flags, guest, vcpu, buffer, buffer_len);
     adk_answer a = judge_state(store, store_len, flags, guest, vcpu, buffer, buffer_len,
-                               flags != 0 ? GUEST_W : THREAD_W, &values);
+                               flags != 0 ? GUEST_W : THREAD_W, &t);
     if (a.r3 == 0)
-        apply(store + values, buffer);
+        apply(store + t.values, buffer);
     return a;
 }
 
@@ -751,15 +856,15 @@ adk_answer mdl_run_vcpu(uint8_t *store, size_t store_len, uint64_t flags, uint64
                         const uint8_t *input, size_t input_len, uint8_t *output, size_t output_len,
                         const uint8_t *effect, size_t effect_len, uint64_t exit_reason)
 {
-    size_t at;
-    adk_answer a = target(store, store_len, flags & ~BITS_0_TO_2, KEPT, guest, vcpu, &at);
+    struct target t;
+    adk_answer a = target(store, store_len, flags & ~BITS_0_TO_2, KEPT, guest, vcpu, &t);
     if (a.r3 != 0)
         return a;
-    uint8_t *values = store + at;
+    uint8_t *values = store + t.values;
     a = judge_lent(values, input_len, output_len);
     if (a.r3 != 0)
         return a;
-    bool power9 = is_power9(store, guest);
+    bool power9 = is_power9(t.l, store, guest);
     struct verdict v = first_bad(input, registered_size(values, RUN_INPUT), INPUT, power9, 0);
     if (v.r3 != 0)
         return offset_and_index(v.r3, v);
@@ -776,32 +881,39 @@ adk_answer mdl_run_vcpu(uint8_t *store, size_t store_len, uint64_t flags, uint64
 }
 
 /* "The store": delete clears the live bit and the slot words only; L1: and the marks of the slots that it drops. */
-static void drop_guest(uint8_t *s, unsigned guest)
+static void drop_guest(const struct layout *l, uint8_t *s, unsigned guest)
 {
-    s[LIVE] &= (uint8_t)~(1u << (GUESTS - guest));
-    for (unsigned slot = 0; slot < SLOTS; slot++)
-        if (guest_of(word(s, slot)) == guest) {
-            store16(s + WORDS + 2 * slot, 0);
-            put_mark(s, slot, false);
+    put_bit(s + LIVE, guest - 1, false);
+    for (unsigned slot = 0; slot < l->slots; slot++)
+        if (guest_of(l, word(l, s, slot)) == guest) {
+            put_word(l, s, slot, 0);
+            put_mark(l, s, slot, false);
         }
+}
+
+/* The same of all guests: the live bits, the words and the marks fill whole bytes. */
+static void drop_all(const struct layout *l, uint8_t *s)
+{
+    memset(s + LIVE, 0, l->live_bytes);
+    memset(s + l->words, 0, width(l) * l->slots / 8);
+    memset(s + l->marks, 0, l->slots / 8);
 }
 
 /* "Answers", others 1, 2, 3, and flag bits: delete bit 0 is all guests, and the id is then ignored. */
 adk_answer mdl_delete_guest(uint8_t *store, size_t store_len, uint64_t flags, uint64_t guest)
 {
-    if (!well_formed(store, store_len))
+    const struct layout *l = layout_of(store, store_len);
+    if (l == NULL)
         return answer(1, 0);
     if ((flags & ~BIT_0) != 0)
         return bad_flag(flags & ~BIT_0);
     if (flags != 0) {
-        store[LIVE] = 0;
-        memset(store + WORDS, 0, 2 * SLOTS);
-        store16(store + MARKS, 0);
+        drop_all(l, store);
         return answer(0, 0);
     }
-    if (!live(store, guest))
+    if (!live(l, store, guest))
         return answer(3, 0);
-    drop_guest(store, (unsigned)guest);
+    drop_guest(l, store, (unsigned)guest);
     return answer(0, 0);
 }
 
@@ -817,12 +929,42 @@ static uint64_t rounded_up(uint64_t offset)
    then 3. The offset that is kept stays as it was set. */
 adk_answer mdl_guest_clock(const uint8_t *store, size_t store_len, uint64_t guest, uint64_t timebase)
 {
-    if (!well_formed(store, store_len))
+    const struct layout *l = layout_of(store, store_len);
+    if (l == NULL)
         return answer(1, 0);
-    if (!live(store, guest))
+    if (!live(l, store, guest))
         return answer(3, 0);
-    uint64_t offset = load64(store + GUEST_VALUES + GUEST_SIZE * (guest - 1) + TB_OFFSET);
+    uint64_t offset = load64(store + guest_at(l, guest) + TB_OFFSET);
     return answer(0, timebase + rounded_up(offset));
+}
+
+/* The word of a small store's slot as a large one has it. */
+static uint32_t converted_word(uint32_t w)
+{
+    return w == 0 ? 0 : word_of(&LARGE, guest_of(&SMALL, w), w & VCPU_MAX);
+}
+
+/*
+ * 02, L6: "A conversion writes a small store as a large one (values at the same guest and slot, in use or not, else
+ * zero)"; it "gives 1 for a source that is not a well-formed small store, then 5 for a target of another length".
+ */
+adk_answer mdl_convert(const uint8_t *small, size_t small_len, uint8_t *large, size_t large_len)
+{
+    if (layout_of(small, small_len) != &SMALL)
+        return answer(1, 0);
+    if (large_len != LARGE.size)
+        return answer(5, 0);
+    memset(large, 0, LARGE.size);
+    store64(large + CAPABILITIES, load64(small + CAPABILITIES));
+    for (unsigned guest = 1; guest <= SMALL.guests; guest++)
+        put_bit(large + LIVE, guest - 1, live(&SMALL, small, guest));
+    for (unsigned slot = 0; slot < SMALL.slots; slot++) {
+        put_word(&LARGE, large, slot, converted_word(word(&SMALL, small, slot)));
+        put_mark(&LARGE, large, slot, marked(&SMALL, small, slot));
+    }
+    memcpy(large + LARGE.guest_values, small + SMALL.guest_values, SMALL.guests * GUEST_SIZE);
+    memcpy(large + LARGE.slot_values, small + SMALL.slot_values, SMALL.slots * SLOT_SIZE);
+    return answer(0, 0);
 }
 
 /*

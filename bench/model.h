@@ -21,6 +21,7 @@ adk_answer mdl_run_vcpu(uint8_t *store, size_t store_len, uint64_t flags, uint64
                         const uint8_t *effect, size_t effect_len, uint64_t exit_reason);
 adk_answer mdl_delete_guest(uint8_t *store, size_t store_len, uint64_t flags, uint64_t guest);
 adk_answer mdl_guest_clock(const uint8_t *store, size_t store_len, uint64_t guest, uint64_t timebase);
+adk_answer mdl_convert(const uint8_t *small, size_t small_len, uint8_t *large, size_t large_len);
 adk_found mdl_lookup(const uint8_t *buffer, size_t buffer_len, uint16_t id);
 
 #endif

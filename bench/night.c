@@ -2,6 +2,7 @@
 #include "night.h"
 
 #include "chance.h"
+#include "damage.h"
 
 #include <string.h>
 
@@ -29,11 +30,13 @@ MAKE(plain, run_vcpu, m[STORE], c->len[STORE], c->n[0], c->n[1], c->n[2], m[INPU
      c->len[OUTPUT], m[EFFECT], c->len[EFFECT], c->n[3])
 MAKE(plain, delete_guest, m[STORE], c->len[STORE], c->n[0], c->n[1])
 MAKE(plain, guest_clock, m[STORE], c->len[STORE], c->n[0], c->n[1])
+MAKE(plain, convert, m[STORE], c->len[STORE], m[TARGET], c->len[TARGET])
 MAKE(as_is, lookup, m[BUFFER], c->len[BUFFER], (uint16_t)c->n[0])
 
 size_t extent(const struct call *c, enum piece p)
 {
-    return p == STORE && c->len[p] < ADK_STORE_SIZE ? ADK_STORE_SIZE : c->len[p];
+    size_t whole = p == STORE ? layout->size : p == TARGET ? ADK_LARGE_STORE_SIZE : 0;
+    return c->len[p] < whole ? whole : c->len[p];
 }
 
 bool same_answer(const adk_found *a, const adk_found *b)
@@ -47,48 +50,43 @@ static struct manner manner;
 
 /* ---- Numbers: mostly good ones, so that stores fill, and each edge ---- */
 
-unsigned word_of(uint64_t guest, unsigned vcpu)
-{
-    return 0x8000 | (unsigned)guest << 11 | vcpu;
-}
-
 static unsigned slot_word(unsigned slot)
 {
-    return (unsigned)adk_read_be(memory[BEFORE][STORE] + WORDS + 2 * slot, 2);
+    return word_in(memory[BEFORE][STORE], slot);
 }
 
 bool is_used(unsigned slot)
 {
-    return (slot_word(slot) & 0x8000) != 0;
+    return (slot_word(slot) & used_bit()) != 0;
 }
 
 bool is_marked(unsigned slot)
 {
-    return (adk_read_be(memory[BEFORE][STORE] + MARKS, 2) & 0x8000u >> slot) != 0;
+    return has_mark(memory[BEFORE][STORE], slot);
 }
 
 /* The word of a slot that is so, from any slot on; 0 where there is none. */
 static unsigned word_where(bool (*is_so)(unsigned slot))
 {
-    unsigned first = below(ADK_SLOTS);
-    for (unsigned i = 0; i < ADK_SLOTS; i++)
-        if (is_so((first + i) % ADK_SLOTS))
-            return slot_word((first + i) % ADK_SLOTS);
+    unsigned first = below(layout->slots);
+    for (unsigned i = 0; i < layout->slots; i++)
+        if (is_so((first + i) % layout->slots))
+            return slot_word((first + i) % layout->slots);
     return 0;
 }
 
-static unsigned used_word(void)
+unsigned used_word(void)
 {
     return word_where(is_used);
 }
 
-static uint64_t live_guest(void)
+uint64_t live_guest(void)
 {
-    unsigned first = below(ADK_GUESTS);
-    for (unsigned i = 0; i < ADK_GUESTS; i++) {
-        unsigned g = (first + i) % ADK_GUESTS;
-        if (memory[BEFORE][STORE][LIVE] & 0x80 >> g)
-            return g + 1;
+    unsigned first = below(layout->guests);
+    for (unsigned i = 0; i < layout->guests; i++) {
+        unsigned g = 1 + (first + i) % layout->guests;
+        if (has_live(memory[BEFORE][STORE], g))
+            return g;
     }
     return 1 + first;
 }
@@ -96,10 +94,10 @@ static uint64_t live_guest(void)
 static uint64_t any_guest(void)
 {
     switch (below(16)) {
-    case 0: return below(16);
-    case 1: return 1 + below(ADK_GUESTS);
+    case 0: return below((1u << layout->guest_bits) + 1);
+    case 1: return 1 + below(layout->guests);
     case 2: return any_number();
-    case 3: return alias(live_guest(), 3);
+    case 3: return alias(live_guest(), layout->guest_bits - 1);
     default: return live_guest();
     }
 }
@@ -110,8 +108,8 @@ static uint64_t any_vcpu(void)
     case 0: return any_number();
     case 1: return alias(below(2048), 11);
     case 2: return ADK_VCPU_MAX + below(3) - 1;
-    case 3: return alias(used_word() & 2047, 11);
-    case 4: return used_word() & 2047; /* so that two guests have a vCPU with one id */
+    case 3: return alias(vcpu_in(used_word()), 11);
+    case 4: return vcpu_in(used_word()); /* so that two guests have a vCPU with one id */
     case 5:
     case 6: return below(3);
     default: return below(2048);
@@ -160,21 +158,29 @@ static uint64_t any_token(void)
     }
 }
 
+#define S ADK_STORE_SIZE
+#define L ADK_LARGE_STORE_SIZE
+
+/* Beside both sizes, between them, where a field ends, and where only the last 16 bits are a size's. */
 static const size_t WRONG_LENGTHS[] = {
-    0, 1, 2, 7, 8, 9, 10, 41, 42, 43, 44, 459, 460, 461, ADK_STORE_SIZE / 2, ADK_STORE_SIZE - 1820, ADK_STORE_SIZE - 52,
-    ADK_STORE_SIZE - 2, ADK_STORE_SIZE - 1, ADK_STORE_SIZE + 1, ADK_STORE_SIZE + 2, ADK_STORE_SIZE + 1820, 32768, 65535,
-    65536, STORE_CAPACITY
+    0, 1, 2, 7, 8, 9, 10, 16, 24, 41, 42, 43, 44, 168, 459, 460, 461, 3443, 3444, 3445, S / 2, S - 1820, S - 52, S - 2,
+    S - 1, S + 1, S + 2, S + 1820, 32768, L - 65536, 65535, 65536, (S + L) / 2, S + 65536, L - 1820, L - 52, L - 2,
+    L - 1, L + 1, L + 2, L + 1820, STORE_CAPACITY
 };
+
+#undef S
+#undef L
 
 static size_t wrong_length(void)
 {
-    return percent(80) ? WRONG_LENGTHS[below(COUNT(WRONG_LENGTHS))] : below(STORE_CAPACITY + 1);
+    size_t any = percent(80) ? WRONG_LENGTHS[below(COUNT(WRONG_LENGTHS))] : below(STORE_CAPACITY + 1);
+    return any == ADK_STORE_SIZE || any == ADK_LARGE_STORE_SIZE ? any - 1 : any;
 }
 
 /* A vendor that keeps its own state looks at no store, so it is lent no wrong one. */
 static void lend_store_mostly(struct call *c, unsigned good)
 {
-    c->len[STORE] = manner.opaque || percent(good) ? ADK_STORE_SIZE : wrong_length();
+    c->len[STORE] = manner.opaque || percent(good) ? layout->size : wrong_length();
 }
 
 static void lend_store(struct call *c)
@@ -184,10 +190,24 @@ static void lend_store(struct call *c)
 
 /* ---- What each call is given ---- */
 
+/* What a store that is made fresh is to be from then on. */
+static const struct layout *any_layout(void)
+{
+    bool large = manner.large && (manner.no_conversion || percent(50));
+    return &LAYOUTS[large ? LARGE : SMALL];
+}
+
+/* The layout that the last call, if it is a fresh store, gives the store. */
+static const struct layout *made_fresh;
+
 /* A fresh store ends a history, so it is mostly refused. */
 static void choose_fresh_store(struct call *c)
 {
-    lend_store_mostly(c, 10);
+    lend_store_mostly(c, manner.large ? 20 : 10);
+    if (c->len[STORE] != layout->size)
+        return;
+    made_fresh = any_layout();
+    c->len[STORE] = made_fresh->size;
 }
 
 static void choose_get_capabilities(struct call *c)
@@ -215,8 +235,8 @@ static void choose_create_vcpu(struct call *c)
     unsigned w = percent(15) ? used_word() : 0;
     lend_store(c);
     c->n[0] = any_flags(0);
-    c->n[1] = w != 0 ? w >> 11 & 15 : any_guest();
-    c->n[2] = w != 0 ? w & 2047 : any_vcpu();
+    c->n[1] = w != 0 ? guest_in(w) : any_guest();
+    c->n[2] = w != 0 ? vcpu_in(w) : any_vcpu();
 }
 
 static void choose_delete_guest(struct call *c)
@@ -230,12 +250,6 @@ const uint64_t TIMEBASES[] = {
     0, 1, TB_STEP - 1, TB_STEP, TB_STEP + 1, -2 * TB_STEP - 1, -2 * TB_STEP, -TB_STEP - 1, -TB_STEP, 1 - TB_STEP,
     UINT64_MAX
 };
-
-/* Where the values of a guest begin; the first is its logical PVR. */
-static size_t guest_at(uint64_t guest)
-{
-    return HEADER + GUEST_SIZE * (guest - 1);
-}
 
 static size_t tb_offset_at(uint64_t guest)
 {
@@ -253,7 +267,7 @@ static uint64_t any_timebase(uint64_t guest)
 {
     if (percent(60))
         return TIMEBASES[below(TIMEBASE_COUNT)];
-    if (guest < 1 || guest > ADK_GUESTS || percent(40))
+    if (guest < 1 || guest > layout->guests || percent(40))
         return any_number();
     uint64_t offset = tb_offset(guest);
     if (percent(30))
@@ -273,7 +287,7 @@ static void choose_guest_clock(struct call *c)
 
 uint32_t pvr_of(uint64_t guest)
 {
-    return guest < 1 || guest > ADK_GUESTS ? 0 : (uint32_t)adk_read_be(memory[BEFORE][STORE] + guest_at(guest), 4);
+    return guest < 1 || guest > layout->guests ? 0 : (uint32_t)adk_read_be(memory[BEFORE][STORE] + guest_at(guest), 4);
 }
 
 enum list list_of(uint64_t guest)
@@ -321,10 +335,10 @@ static void choose_vcpu_of(struct call *c, unsigned w)
         c->n[2] = any_vcpu();
         return;
     }
-    c->n[1] = w >> 11 & 15;
-    c->n[2] = w & 2047;
+    c->n[1] = guest_in(w);
+    c->n[2] = vcpu_in(w);
     if (percent(3))
-        c->n[1] = alias(c->n[1], 4);
+        c->n[1] = alias(c->n[1], layout->guest_bits);
     if (percent(3))
         c->n[2] = alias(c->n[2], 11);
 }
@@ -340,7 +354,7 @@ static void choose_vcpu(struct call *c)
 static void shorten_if_wrong_owner(struct call *c)
 {
     unsigned slot = slot_of(c);
-    bool wrong = slot < ADK_SLOTS && is_marked(slot) != (c->kind->hand == GIVING);
+    bool wrong = slot < layout->slots && is_marked(slot) != (c->kind->hand == GIVING);
     if (!c->kind->wide && wrong && percent(15))
         c->len[BUFFER] = below(4);
 }
@@ -376,7 +390,7 @@ static void choose_state(struct call *c)
     const struct call *last = &last_state;
     lend_store(c);
     if (percent(12)) {
-        *c = (struct call){ c->kind, { c->len[STORE], last->len[BUFFER] }, { 0, last->n[1], last->n[2] } };
+        *c = (struct call){ c->kind, { c->len[STORE], last->len[BUFFER] }, { 0, last->n[1], last->n[2] }, false };
     } else {
         choose_vcpu(c);
         lend_state(c);
@@ -397,7 +411,7 @@ static struct kept {
     uint64_t guest, vcpu;
     size_t len; /* 0: none */
     uint8_t bytes[ADK_FORM_MAX];
-} kept[ADK_SLOTS];
+} kept[SLOTS_MOST];
 
 /* The last call, if it is a take of a vCPU that is not taken. */
 static struct call take_made;
@@ -406,7 +420,7 @@ static struct call take_made;
 static void keep_form(void)
 {
     unsigned slot = slot_of(&take_made);
-    if (take_made.kind != NULL && slot < ADK_SLOTS && is_marked(slot)) {
+    if (take_made.kind != NULL && slot < layout->slots && is_marked(slot)) {
         const uint8_t *form = memory[BEFORE][BUFFER];
         struct kept *k = &kept[slot];
         *k = (struct kept){ take_made.n[1], take_made.n[2], read_form(form).len, { 0 } };
@@ -440,16 +454,16 @@ static void choose_take(struct call *c)
         c->len[BUFFER] = percent(40) ? ADK_FORM_MAX - 1 : any_hand_over_length();
     shorten_if_wrong_owner(c);
     unsigned slot = slot_of(c);
-    if (slot < ADK_SLOTS && !is_marked(slot))
+    if (slot < layout->slots && !is_marked(slot))
         take_made = *c;
 }
 
 /* The form that was taken of the vCPU, of another guest's vCPU with its id, or of any; NULL if there is none such. */
 static const struct kept *any_kept(const struct call *c)
 {
-    unsigned first = below(ADK_SLOTS), way = below(10);
-    for (unsigned i = 0; i < ADK_SLOTS; i++) {
-        const struct kept *k = &kept[(first + i) % ADK_SLOTS];
+    unsigned first = below(layout->slots), way = below(10);
+    for (unsigned i = 0; i < layout->slots; i++) {
+        const struct kept *k = &kept[(first + i) % layout->slots];
         bool guest = k->guest == c->n[1], vcpu = k->vcpu == c->n[2];
         if (k->len != 0 && (way < 7 ? guest && vcpu : way < 9 ? !guest && vcpu : true))
             return k;
@@ -524,9 +538,9 @@ static unsigned output_id(void)
 unsigned slot_of(const struct call *c)
 {
     unsigned slot = 0;
-    if (c->n[1] > 15 || c->n[2] > ADK_VCPU_MAX)
-        return ADK_SLOTS;
-    while (slot < ADK_SLOTS && slot_word(slot) != word_of(c->n[1], (unsigned)c->n[2]))
+    if (c->n[1] >> layout->guest_bits != 0 || c->n[2] > ADK_VCPU_MAX)
+        return layout->slots;
+    while (slot < layout->slots && slot_word(slot) != word_of(c->n[1], (unsigned)c->n[2]))
         slot++;
     return slot;
 }
@@ -534,7 +548,7 @@ unsigned slot_of(const struct call *c)
 /* The place in the store of element 0x0C00 or 0x0C01; the size is in its second 8 bytes. */
 static size_t registration_at(unsigned slot, unsigned id)
 {
-    return SLOT_VALUES + SLOT_SIZE * slot + 16 * (id - 0x0C00);
+    return slot_at(slot) + 16 * (id - 0x0C00);
 }
 
 uint64_t registered_size(unsigned slot, unsigned id)
@@ -590,7 +604,7 @@ static void lend_run_buffers(struct call *c)
     any_bytes(memory[BEFORE][OUTPUT], 160);
     share(OUTPUT, 0, 160);
     c->len[OUTPUT] = output;
-    if (slot == ADK_SLOTS)
+    if (slot == layout->slots)
         return;
     if (!manner.opaque) {
         register_buffer(slot, 0x0C00, input);
@@ -620,171 +634,24 @@ static void choose_run_vcpu(struct call *c)
     lend_run_buffers(c);
 }
 
-/* ---- Damage to a store ---- */
+/* ---- A store converted ---- */
 
-void put_word(uint8_t *h, unsigned slot, unsigned w)
+/* The last call, if it is a conversion whose target the night goes on with where it is accepted. */
+static bool goes_on_with_target;
+
+/* The target's bytes are anything, but that the last is not zero: a conversion makes it so. Where the store is the
+   bench's, it may go on as it is. */
+static void choose_convert(struct call *c)
 {
-    adk_write_be(h + WORDS + 2 * slot, 2, w);
-}
-
-/* A word of this guest in any slot. */
-static unsigned put_guest(uint8_t *h, uint64_t guest)
-{
-    unsigned w = word_of(guest, below(2048));
-    put_word(h, below(ADK_SLOTS), w);
-    return w;
-}
-
-/* Two slots with one pair, or with pairs that differ in one bit of the vCPU id. */
-static void pair_twice(uint8_t *h)
-{
-    unsigned w = used_word();
-    if (w == 0)
-        w = put_guest(h, live_guest());
-    if (percent(40))
-        w ^= 1u << below(11);
-    put_word(h, below(ADK_SLOTS), w);
-}
-
-/* A word that is not used and not zero: made so, or by clearing the used bit. */
-static void word_unused(uint8_t *h)
-{
-    unsigned slot = below(ADK_SLOTS);
-    unsigned w = slot_word(slot) & 0x7FFF;
-    if (w == 0 || percent(50))
-        w = percent(50) ? 1u << below(15) : 1 + below(0x7FFF);
-    put_word(h, slot, w);
-}
-
-void put_mark(uint8_t *h, unsigned slot, bool mark)
-{
-    unsigned bit = 0x8000u >> slot, marks = (unsigned)adk_read_be(h + MARKS, 2);
-    adk_write_be(h + MARKS, 2, mark ? marks | bit : marks & ~bit);
-}
-
-/* A mark more or less: on a slot that is not used it is wrong. */
-static void turn_mark(uint8_t *h)
-{
-    unsigned slot = below(ADK_SLOTS);
-    put_mark(h, slot, !is_marked(slot));
-}
-
-/* All guests live and all slots used: well formed, or with one pair twice. */
-static void full_house(uint8_t *h)
-{
-    unsigned first = below(2048);
-    h[LIVE] = 0xFF;
-    for (unsigned i = 0; i < ADK_SLOTS; i++)
-        put_word(h, i, word_of(1 + below(ADK_GUESTS), (first + i) % 2048));
-    if (percent(60)) {
-        unsigned w = (unsigned)adk_read_be(h + WORDS + 2 * below(ADK_SLOTS), 2);
-        put_word(h, below(ADK_SLOTS), w);
-    }
-}
-
-static void capabilities_wrong(uint8_t *h)
-{
-    if (percent(20))
-        any_bytes(h, 8);
-    else
-        flip_bit(h, 8);
-}
-
-/* Some of these leave the store well formed, and then the call must go through. */
-static void damage_header(uint8_t *h)
-{
-    switch (below(13)) {
-    case 0: any_bytes(h, HEADER); break;
-    case 1: any_bytes(h + below(HEADER), 1); break;
-    case 2: flip_bit(h, HEADER); flip_bit(h, HEADER); break;
-    case 3: pair_twice(h); break;
-    case 4: put_guest(h, below(16)); break;
-    case 5: word_unused(h); break;
-    case 6: h[ZERO] = (uint8_t)(percent(50) ? 1u << below(8) : 1 + below(255)); break;
-    case 7: capabilities_wrong(h); break;
-    case 8: h[LIVE] = (uint8_t)(percent(50) ? below(256) : h[LIVE] & ~(1u << below(8))); break;
-    case 9: full_house(h); break;
-    case 10: turn_mark(h); break;
-    default: flip_bit(h, HEADER); break;
-    }
-}
-
-/* A damaged header stays for a few calls and is then put back, so that the history goes on. */
-static uint8_t saved_header[HEADER];
-static unsigned damaged_for;
-
-static void damage_or_repair(void)
-{
-    uint8_t *h = memory[BEFORE][STORE];
-    if (damaged_for > 0) {
-        if (--damaged_for > 0)
-            return;
-        memcpy(h, saved_header, HEADER);
-    } else if (percent(12)) {
-        memcpy(saved_header, h, HEADER);
-        damage_header(h);
-        damaged_for = 1 + below(5);
-    } else {
-        return;
-    }
-    share(STORE, 0, HEADER);
-}
-
-/* Value bytes are free: they are made anything, so that what a call zeroes, keeps or adds shows. */
-static void stir_values(void)
-{
-    size_t at = HEADER, n = ADK_STORE_SIZE - HEADER;
-    uint8_t *s = memory[BEFORE][STORE];
-    if (percent(90)) {
-        at = percent(50) ? at + below((unsigned)n) : at + below(8 * GUEST_SIZE);
-        n = 1 + below(64);
-        if (n > ADK_STORE_SIZE - at)
-            n = ADK_STORE_SIZE - at;
-    }
-    any_bytes(s + at, n);
-    share(STORE, at, n);
-}
-
-static void set_tb_offset(void)
-{
-    size_t at = tb_offset_at(1 + below(ADK_GUESTS));
-    adk_write_be(memory[BEFORE][STORE] + at, 8, any_tb_offset());
-    share(STORE, at, 8);
-}
-
-/* Value bytes are free, so a guest can have any PVR, agreed or not: POWER9's, none, another, one that differs from
-   POWER9's in a bit. */
-static void set_pvr(void)
-{
-    uint64_t guest = 1 + below(ADK_GUESTS);
-    static const uint32_t others[] = { 0, ADK_PVR_ARCH_31, 0x0F000004, 0x0F000007, 0x0500000F, 0xFFFFFFFF };
-    uint32_t other = percent(60) ? others[below(COUNT(others))] : ADK_PVR_ARCH_300 ^ 1u << below(32);
-    put_pvr(guest, percent(50) ? ADK_PVR_ARCH_300 : other);
-    share(STORE, guest_at(guest), 4);
-}
-
-/* A vCPU becomes taken or is no longer: value bytes are free, so one that is taken may have values. */
-static void turn_used_mark(void)
-{
-    unsigned slot = below(ADK_SLOTS);
-    if (!is_used(slot))
-        return;
-    put_mark(memory[BEFORE][STORE], slot, !is_marked(slot));
-    share(STORE, MARKS, 2);
-}
-
-/* What happens to a store that is lent between two calls. */
-static void touch_store(void)
-{
-    damage_or_repair();
-    if (percent(1) && damaged_for == 0)
-        turn_used_mark();
-    if (percent(4))
-        stir_values();
-    if (percent(4))
-        set_tb_offset();
-    if (percent(4))
-        set_pvr();
+    uint8_t *target = memory[BEFORE][TARGET];
+    lend_store(c);
+    c->len[TARGET] = ADK_LARGE_STORE_SIZE;
+    if (percent(30))
+        c->len[TARGET] = percent(10) ? ADK_STORE_SIZE : wrong_length();
+    any_bytes(target, ADK_LARGE_STORE_SIZE);
+    target[ADK_LARGE_STORE_SIZE - 1] |= 1;
+    share(TARGET, 0, ADK_LARGE_STORE_SIZE);
+    goes_on_with_target = manner.opaque || percent(20);
 }
 
 /* ---- The table of calls ---- */
@@ -834,6 +701,8 @@ const struct kind KINDS[] = {
       .weight = { 3, 15, 40 }, .answers = A(0) | A(1) | A(2) | A(3), .supported = ADK_DELETE_ALL },
     { "guest_clock", ON(guest_clock), .number = { "guest", "timebase" }, .use = { [STORE] = READ },
       .weight = { 30, 30, 30 }, .answers = A(0) | A(1) | A(3) },
+    { "convert", ON(convert), .use = { [STORE] = READ, [TARGET] = WRITTEN }, .weight = { 40, 40, 40 },
+      .answers = A(0) | A(1) | A(5) },
     { "lookup", ON(lookup), .number = { "id" }, .use = { [BUFFER] = READ }, .weight = { 50, 50, 50 },
       .answers = A(0) | A(5) | A(6) | A(7), .both = A(6) | A(7) },
 };
@@ -871,25 +740,54 @@ bool sets_capabilities(const struct kind *k)
     return k->make == make_set_capabilities;
 }
 
+bool converts(const struct kind *k)
+{
+    return k->make == make_convert;
+}
+
+bool is_made(const struct kind *k, struct manner m)
+{
+    return !converts(k) || (m.large && !m.no_conversion);
+}
+
 bool can_answer(const struct kind *k, int answer, struct manner m)
 {
-    return (k->answers & A(answer)) != 0 && !(m.opaque && answer == ADK_BAD_STORE);
+    return is_made(k, m) && (k->answers & A(answer)) != 0 && !(m.opaque && answer == ADK_BAD_STORE);
+}
+
+const struct layout *layout_of_night(struct manner m)
+{
+    return &LAYOUTS[m.large ? LARGE : SMALL];
 }
 
 /* What is called most often changes now and then, so that the store fills and empties. */
 static unsigned mood;
 
+/* A small store is to have guests and vCPUs when the night goes on with its conversion, best a taken one. A large one
+   is refused, at times; where a vendor keeps its own state, it is not asked for that. */
+static unsigned conversion_weight(unsigned weight)
+{
+    if (layout == &LAYOUTS[SMALL])
+        return manner.opaque && !any_mark(memory[BEFORE][STORE]) ? weight / 10 : weight;
+    return manner.opaque ? 0 : weight / 10;
+}
+
 /* What is agreed stays while a guest lives. So it is mostly changed while none does: then guests come to live with each
-   set of capabilities, and both logical PVRs are set. A vCPU is mostly given back while one is taken. A night of NOPs
-   hands no values over. */
+   set of capabilities, and both logical PVRs are set. A vCPU is mostly given back while one is taken. A large store
+   takes longer to fill. A night of NOPs hands no values over. */
 static unsigned weight_of(const struct kind *k)
 {
-    if (k->hand != NO_HAND && manner.only_nops)
+    const uint8_t *s = memory[BEFORE][STORE];
+    unsigned weight = k->weight[mood];
+    if (!is_made(k, manner) || (k->hand != NO_HAND && manner.only_nops))
         return 0;
+    if (converts(k))
+        return conversion_weight(weight);
     if (k->hand == GIVING)
-        return adk_read_be(memory[BEFORE][STORE] + MARKS, 2) != 0 ? k->weight[mood] : k->weight[mood] / 16;
-    bool may_change = sets_capabilities(k) && memory[BEFORE][STORE][LIVE] == 0;
-    return may_change ? 4 * k->weight[mood] : k->weight[mood];
+        return any_mark(s) ? weight : weight / 16;
+    if (k->answers & A(ADK_NOT_ENOUGH_RESOURCES) && mood == 0 && layout == &LAYOUTS[LARGE])
+        return 10 * weight;
+    return sets_capabilities(k) && !any_live(s) ? 4 * weight : weight;
 }
 
 static const struct kind *any_kind(void)
@@ -904,15 +802,44 @@ static const struct kind *any_kind(void)
 
 /* ---- The night ---- */
 
+/* From now on the store has this layout. */
+static void change_layout(const struct layout *to)
+{
+    if (layout != to)
+        forget_damage();
+    layout = to;
+}
+
+/* What became of the store by the last call, if it was accepted: a fresh one of the size that was lent, or a
+   conversion, by which the target's last byte became zero; then the target is the store. */
+static bool follow_store(void)
+{
+    const uint8_t *target = memory[BEFORE][TARGET];
+    bool converted = goes_on_with_target && target[ADK_LARGE_STORE_SIZE - 1] == 0;
+    if (made_fresh != NULL)
+        change_layout(made_fresh);
+    if (converted) {
+        change_layout(&LAYOUTS[LARGE]);
+        memcpy(memory[BEFORE][STORE], target, layout->size);
+        share(STORE, 0, layout->size);
+    }
+    made_fresh = NULL;
+    goes_on_with_target = false;
+    return converted;
+}
+
 void begin_night(struct manner m)
 {
     manner = m;
     mood = 0;
-    damaged_for = 0;
+    forget_damage();
+    made_fresh = NULL;
+    goes_on_with_target = false;
     last_state = take_made = (struct call){ 0 };
     memset(kept, 0, sizeof kept);
-    memset(memory[BEFORE][STORE], 0, ADK_STORE_SIZE);
-    share(STORE, 0, ADK_STORE_SIZE);
+    layout = any_layout();
+    memset(memory[BEFORE][STORE], 0, layout->size);
+    share(STORE, 0, layout->size);
 }
 
 struct call next_call(uint64_t number)
@@ -920,9 +847,11 @@ struct call next_call(uint64_t number)
     if (number % 256 == 0)
         mood = below(MOODS);
     keep_form();
+    bool converted = follow_store();
     if (!manner.opaque)
         touch_store();
-    struct call c = { manner.opaque && number == 1 ? KINDS : any_kind(), { 0 }, { 0 } };
+    struct call c = { manner.opaque && number == 1 ? KINDS : any_kind(), { 0 }, { 0 }, false };
     c.kind->choose(&c);
+    c.was_target = converted;
     return c;
 }

@@ -5,6 +5,9 @@
  * calls are good ones, so that stores fill and vCPUs run, and each edge of a rule is met. Between the calls values are
  * stirred, and headers damaged for a while. To add a call: its entry in l0.h, then in night.c its numbers' makers, a
  * line MAKE, and a row of KINDS.
+ *
+ * A night of the large store begins with a large one or with a small one, which is soon converted; so does what follows
+ * a fresh store.
  */
 #ifndef NIGHT_H
 #define NIGHT_H
@@ -13,7 +16,7 @@
 #include "l0.h"
 
 /* Answers are 0 to 21; no call of a night gives 15 or 18 to 20. */
-enum { NUMBERS = 4, MOODS = 3, ANSWERS = 22, KIND_COUNT = 15, EXIT_COUNT = 7, NO_EXIT_COUNT = 34 };
+enum { NUMBERS = 4, MOODS = 3, ANSWERS = 22, KIND_COUNT = 16, EXIT_COUNT = 7, NO_EXIT_COUNT = 34 };
 enum { TIMEBASE_COUNT = 11 };
 enum use { NOT_LENT, READ, WRITTEN };
 
@@ -26,6 +29,7 @@ struct call {
     const struct kind *kind;
     size_t len[PIECES];
     uint64_t n[NUMBERS];
+    bool was_target; /* the store is what the last call, a conversion, had as its target */
 };
 
 /* Get and set state have a row for each scope and one for the hand-over, so that the answers of each are counted. */
@@ -54,6 +58,7 @@ bool tells_place(const struct kind *k, uint64_t answer);
 bool is_clock(const struct kind *k);
 bool is_delete(const struct kind *k);
 bool sets_capabilities(const struct kind *k);
+bool converts(const struct kind *k);
 
 /* Exit reasons; and numbers close to one, other interrupts, and exit reasons where only the low or the high bits are
    kept. */
@@ -63,13 +68,19 @@ extern const uint64_t EXITS[EXIT_COUNT], NO_EXITS[NO_EXIT_COUNT];
 extern const uint64_t TIMEBASES[TIMEBASE_COUNT];
 
 /* How a night is made. opaque: what is kept changes by calls only, from the fresh store that the first call asks for,
-   as a vendor needs it that keeps its own state. only_nops: every guest state buffer holds NOPs and nothing else. */
+   as a vendor needs it that keeps its own state. only_nops: every guest state buffer holds NOPs and nothing else.
+   large: the store is the large one, and small ones are converted unless no_conversion. */
 struct manner {
-    bool opaque, only_nops;
+    bool opaque, only_nops, large, no_conversion;
 };
 
-/* Whether a call can give an answer in such a night: where nothing is done to the store, it is always well formed. */
+/* Whether a call is made in such a night, and can give an answer: where nothing is done to the store, it is always well
+   formed. */
+bool is_made(const struct kind *k, struct manner m);
 bool can_answer(const struct kind *k, int answer, struct manner m);
+
+/* The store that such a night is of. */
+const struct layout *layout_of_night(struct manner m);
 
 /* Begins with a fresh store. */
 void begin_night(struct manner m);
@@ -87,18 +98,18 @@ bool same_answer(const adk_found *a, const adk_found *b);
 
 /* ---- What the store before the call holds ---- */
 
-unsigned word_of(uint64_t guest, unsigned vcpu);
-void put_word(uint8_t *header, unsigned slot, unsigned word);
+/* The word of a used slot, 0 where there is none; and a live guest, any where none is: by chance. */
+unsigned used_word(void);
+uint64_t live_guest(void);
 
-/* The slot of the vCPU that the call names, or ADK_SLOTS. */
+/* The slot of the vCPU that the call names, or the number of slots. */
 unsigned slot_of(const struct call *c);
 
 /* Whether the slot is used, and whether its vCPU is taken. */
 bool is_used(unsigned slot);
 bool is_marked(unsigned slot);
-void put_mark(uint8_t *header, unsigned slot, bool mark);
 
-/* The TB offset of a guest, from 1 to ADK_GUESTS. */
+/* The TB offset of a guest that there can be. */
 uint64_t tb_offset(uint64_t guest);
 
 /* The logical PVR of a guest, 0 for a number that is none of a guest; the list that it makes; and one that is put. */

@@ -63,6 +63,12 @@ static bool set_opaque(struct order *o, const char *value)
     return o->manner.opaque = true;
 }
 
+static bool set_large(struct order *o, const char *value)
+{
+    (void)value;
+    return o->manner.large = true;
+}
+
 static bool set_nops(struct order *o, const char *value)
 {
     (void)value;
@@ -103,6 +109,9 @@ static const struct option {
     { "--opaque", NULL, set_opaque, NULL,
       "for a vendor that keeps its own state: what it keeps changes by calls only,\n"
       "and nothing of the lent store is written or compared" },
+    { "--large", NULL, set_large, NULL,
+      "a night of the large store, of 63 guests and 64 slots; some of its stores are small\n"
+      "ones that are converted, if the vendor exports adk_convert" },
     { "--report", "FILE", read_report, "the name of a file", "write the score as a page, to be opened in a browser" },
     { "--calls", "N", read_calls, A_CALL, "how many calls the night has (200000)" },
     { "--seed", "S", read_order_seed, "a number of at most 64 bits, or the word fresh",
@@ -234,8 +243,8 @@ void print_command(FILE *to, const struct order *o, uint64_t number)
     print_word(to, o->program);
     fprintf(to, " --vendor ");
     print_word(to, o->vendor);
-    fprintf(to, "%s%s --seed 0x%" PRIX64, o->manner.opaque ? " --opaque" : "", o->manner.only_nops ? " --nops" : "",
-            o->seed);
+    fprintf(to, "%s%s%s --seed 0x%" PRIX64, o->manner.opaque ? " --opaque" : "", o->manner.large ? " --large" : "",
+            o->manner.only_nops ? " --nops" : "", o->seed);
     if (o->seconds != USUAL_SECONDS)
         fprintf(to, " --limit %" PRIu64, o->seconds);
     if (number != 0)

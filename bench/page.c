@@ -159,6 +159,20 @@ static void put_head(FILE *to, const struct result *r)
     fputs("</span></div>\n", to);
 }
 
+/* The store's size, and whether small ones were converted; and how full it was. */
+static void put_store(FILE *to, struct manner m, const struct cover *v)
+{
+    const struct layout *l = layout_of_night(m);
+    char text[160];
+    snprintf(text, sizeof text, "%s: %u guests, %u slots, %zu bytes%s", l->name, l->guests, l->slots, l->size,
+             !m.large ? "" : m.no_conversion ? "; the vendor exports no conversion, so it is not scored"
+                                             : "; some begin as small ones, which are converted");
+    fputs("<dt>Store</dt><dd id=\"store\">", to);
+    put_sentence(to, text);
+    fputs("</dd>\n<dt>Fullest store</dt><dd id=\"fullest\">", to);
+    fprintf(to, "%" PRIu64 " of %u guests, %" PRIu64 " of %u slots</dd>\n", v->guests, l->guests, v->slots, l->slots);
+}
+
 static void put_facts(FILE *to, const struct result *r)
 {
     const struct order *o = r->order;
@@ -172,6 +186,7 @@ static void put_facts(FILE *to, const struct result *r)
     put_fact(to, "State",
              o->manner.opaque ? "the vendor's own (--opaque): answers and buffers are compared"
                               : "in the lent store: answers, buffers and every byte of the store are compared");
+    put_store(to, o->manner, &r->figures->cover);
     snprintf(text, sizeof text, "0x%" PRIX64 "%s", o->seed, o->manner.only_nops ? ", buffers of NOPs only" : "");
     put_code(to, "Seed", text);
     snprintf(text, sizeof text, "%" PRIu64 " made, %" PRIu64 " agreed, %" PRIu64 " disagreed, %" PRIu64 " not made",
@@ -246,6 +261,8 @@ static void put_answers(FILE *to, const struct cover *v, struct manner manner)
             fprintf(to, "<th class=\"n\" title=\"%s\">%d</th>", adk_answer_name((uint64_t)a), a);
     fputs("</tr>\n", to);
     for (size_t k = 0; k < KIND_COUNT; k++) {
+        if (!is_made(&KINDS[k], manner))
+            continue;
         fprintf(to, "<tr class=\"call\"><td>%s</td>", KINDS[k].name);
         for (int a = 0; a < ANSWERS; a++)
             if (!some_call_gives(a))

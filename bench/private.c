@@ -6,16 +6,32 @@
 
 #include <string.h>
 
-static uint8_t own[ADK_STORE_SIZE];
+/* As many bytes of it as the fresh store was asked for, or as a conversion made. */
+static uint8_t own[ADK_LARGE_STORE_SIZE];
+static size_t own_len;
 
 adk_answer adk_fresh_store(uint8_t *store, size_t store_len)
 {
     memset(store, 0x5A, store_len);
-    return mdl_fresh_store(own, sizeof own);
+    own_len = store_len;
+    return mdl_fresh_store(own, own_len);
+}
+
+/* What is kept becomes a large store. */
+adk_answer adk_convert(const uint8_t *small, size_t small_len, uint8_t *large, size_t large_len)
+{
+    static uint8_t converted[ADK_LARGE_STORE_SIZE];
+    (void)small, (void)small_len, (void)large;
+    adk_answer a = mdl_convert(own, own_len, converted, large_len);
+    if (a.r3 == ADK_OK) {
+        memcpy(own, converted, sizeof own);
+        own_len = sizeof own;
+    }
+    return a;
 }
 
 /* The other calls get the store that is kept here. */
-#define OWN own, sizeof own
+#define OWN own, own_len
 #define LENT (void)store, (void)store_len
 
 adk_answer adk_get_capabilities(const uint8_t *store, size_t store_len, uint64_t flags)

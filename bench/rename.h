@@ -13,4 +13,5 @@
 #define mdl_run_vcpu adk_run_vcpu
 #define mdl_delete_guest adk_delete_guest
 #define mdl_guest_clock adk_guest_clock
+#define mdl_convert adk_convert
 #define mdl_lookup adk_lookup

@@ -2,17 +2,20 @@
  * score.c: makes a night of calls on the library and on a vendor's library, and tells the vendor's score.
  *
  *     make score VENDOR=./vendor.so
- *     score [--vendor FILE] [--opaque] [--report FILE] [--calls N] [--seed S] [--jobs N] [--only N] [--csv] [--nops]
+ *     score [--vendor FILE] [--opaque] [--large] [--report FILE] [--calls N] [--seed S] [--jobs N] [--only N] [--csv]
+ *           [--nops]
  *
  * The vendor's library is a shared object that exports the functions of adderknot.h. It runs in a process of its own.
  * Each call is made on both sides with the same numbers and bytes; the answer, each lent byte and the bytes beside them
  * are compared. The library is the measure. After a disagreement its memory is copied to the vendor's side, so that one
  * mistake does not drown the rest. With --opaque the vendor keeps its own state instead: it changes by calls only, and
- * after a disagreement in what is kept the next episode begins.
+ * after a disagreement in what is kept the next episode begins. With --large the store is the large one, and small ones
+ * are converted; a vendor that does not export adk_convert is scored without that.
  *
  * The first disagreement of each kind is told in full. Then follow how often each call gave each answer, which elements
  * the night covered, by guests with the whole list and by POWER9 guests, how often the latter were refused what they
- * lack, how many accepted buffers held nothing but NOPs, how many vCPUs were handed over, and the lines that sum it up.
+ * lack, how many accepted buffers held nothing but NOPs, how many vCPUs were handed over, how full the store was, and the
+ * lines that sum it up.
  */
 #define _GNU_SOURCE
 
@@ -69,10 +72,9 @@ static bool write_page(FILE *page, const struct result *r)
 
 /* ---- The night ---- */
 
-/* Whether the vendor's library can be used; where not, it was said why. */
-static bool fit_vendor(struct result *r)
+/* Whether the vendor's library can be used; where not, it was said why. What it cannot do is not asked for. */
+static bool fit_vendor(struct order *o, struct result *r)
 {
-    const struct order *o = r->order;
     struct vendor vendor = { .path = o->vendor, .seconds = (unsigned)o->seconds };
     if (o->model && access(o->vendor, R_OK) != 0) {
         fprintf(stderr, "score: no vendor is named, and the model is not at %s; see score --help\n", o->vendor);
@@ -80,6 +82,7 @@ static bool fit_vendor(struct result *r)
     }
     if (!open_vendor(&vendor))
         return false;
+    o->manner.no_conversion = !vendor.converts;
     close_vendor(&vendor);
     if (sha256_file(o->vendor, r->sha256))
         return true;
@@ -93,8 +96,10 @@ static void announce(const struct order *o)
         return;
     if (o->model)
         printf("score: no vendor is named, so the model stands for one\n");
-    printf("score: vendor %s, %" PRIu64 " calls, seed 0x%" PRIX64 "%s\n\n", o->vendor, o->calls, o->seed,
-           o->manner.opaque ? ", opaque" : "");
+    if (o->manner.large && o->manner.no_conversion)
+        printf("score: the vendor does not export adk_convert, so conversion is not scored\n");
+    printf("score: vendor %s, %" PRIu64 " calls, seed 0x%" PRIX64 "%s%s\n\n", o->vendor, o->calls, o->seed,
+           o->manner.opaque ? ", opaque" : "", o->manner.large ? ", large store" : "");
 }
 
 static double seconds_since(const struct timespec *begun)
@@ -154,7 +159,7 @@ int main(int argc, char **argv)
         return arrived(stdout, "standard output") ? PASSED : UNFIT;
     }
     prctl(PR_SET_DUMPABLE, 0); /* so that the vendor's process, which has the same user, cannot look into this one */
-    if (!fit_vendor(&result) || !open_page(&order, &page))
+    if (!fit_vendor(&order, &result) || !open_page(&order, &page))
         return UNFIT;
     announce(&order);
     return make_score(&result, &figures, page);

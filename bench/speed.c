@@ -59,9 +59,10 @@ static double median(double *v, size_t n)
     return n % 2 != 0 ? v[n / 2] : (v[n / 2 - 1] + v[n / 2]) / 2;
 }
 
-static void measure(const struct work *w, unsigned rounds)
+static void measure(const struct measured *m, unsigned rounds)
 {
     static double ratio[ROUNDS_MAX], lib[ROUNDS_MAX], mdl[ROUNDS_MAX];
+    const struct work *w = m->work;
     unsigned calls = batch_size(w);
     for (unsigned i = 0; i < rounds; i++) {
         if (i % 2 != 0)
@@ -71,7 +72,7 @@ static void measure(const struct work *w, unsigned rounds)
             mdl[i] = time_call(&model, w, calls);
         ratio[i] = lib[i] / mdl[i];
     }
-    printf("%5.2f  %10.1f  %8.1f  %s\n", median(ratio, rounds), median(lib, rounds), median(mdl, rounds), w->name);
+    printf("%5.2f  %10.1f  %8.1f  %s\n", median(ratio, rounds), median(lib, rounds), median(mdl, rounds), m->name);
 }
 
 static int usage(void)
@@ -82,7 +83,6 @@ static int usage(void)
 
 int main(int argc, char **argv)
 {
-    static uint8_t store[ADK_STORE_SIZE];
     long rounds = 201;
     char *end = "";
     if (argc == 3 && strcmp(argv[1], "--rounds") == 0)
@@ -91,17 +91,13 @@ int main(int argc, char **argv)
         return usage();
     if (*end != '\0' || rounds < 1 || rounds > ROUNDS_MAX)
         return usage();
-    if (!fill_store(store)) {
-        printf("failed speed: the store could not be filled\n");
-        return 1;
-    }
     printf("speed: %ld rounds\nratio  library ns  model ns  case\n", rounds);
-    for (size_t i = 0; i < WORKS; i++) {
-        prepare(store, &WORK[i]);
-        bool same = agree(&WORK[i]);
-        measure(&WORK[i], (unsigned)rounds);
-        if (!same || !agree(&WORK[i])) {
-            printf("failed speed: library and model differ, or did other work, in: %s\n", WORK[i].name);
+    for (size_t i = 0; i < case_count(); i++) {
+        struct measured m = case_of(i);
+        bool same = prepare(&m) && agree(m.work);
+        measure(&m, (unsigned)rounds);
+        if (!same || !agree(m.work)) {
+            printf("failed speed: library and model differ, or did other work, in: %s\n", m.name);
             return 1;
         }
     }

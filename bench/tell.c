@@ -75,21 +75,36 @@ static unsigned element_at(size_t at, bool wide)
     return ADK_GSID_NOP;
 }
 
-/* What a byte of a store is part of. */
-static void print_place(FILE *to, size_t at)
+/* What a byte of the slot words is part of: in a large store often of two. */
+static void print_word_place(FILE *to, const struct layout *l, size_t at)
 {
-    size_t in_guests = at - HEADER, in_slots = at - SLOT_VALUES;
+    size_t bit = 8 * (at - l->words), bits = 8 * l->words_size / l->slots;
+    fprintf(to, bit / bits == (bit + 7) / bits ? " (word of slot %zu)" : " (words of slots %zu and %zu)", bit / bits,
+            (bit + 7) / bits);
+}
+
+/* What a byte before the values is part of. */
+static void print_header_place(FILE *to, const struct layout *l, size_t at)
+{
     if (at < LIVE)
         fprintf(to, " (capabilities)");
-    else if (at < WORDS)
-        fprintf(to, " (%s)", at == LIVE ? "live guests" : "zero byte");
-    else if (at < MARKS)
-        fprintf(to, " (word of slot %zu)", (at - WORDS) / 2);
-    else if (at < HEADER)
-        fprintf(to, " (marks of slots %zu to %zu)", 8 * (at - MARKS), 8 * (at - MARKS) + 7);
-    else if (at < SLOT_VALUES)
+    else if (at < LIVE + l->live_bytes)
+        fprintf(to, " (%s)", 8 * (at - LIVE) < l->guests ? "live guests" : "zero byte");
+    else if (at >= l->marks && at < l->marks + l->marks_size)
+        fprintf(to, " (marks of slots %zu to %zu)", 8 * (at - l->marks), 8 * (at - l->marks) + 7);
+    else
+        print_word_place(to, l, at);
+}
+
+/* What a byte of a store is part of. */
+static void print_place(FILE *to, const struct layout *l, size_t at)
+{
+    size_t in_guests = at - l->header, in_slots = at - l->slot_values;
+    if (at < l->header)
+        print_header_place(to, l, at);
+    else if (at < l->slot_values)
         fprintf(to, " (guest %zu, 0x%04X)", in_guests / GUEST_SIZE + 1, element_at(in_guests % GUEST_SIZE, true));
-    else if (at < ADK_STORE_SIZE)
+    else if (at < l->size)
         fprintf(to, " (slot %zu, 0x%04X)", in_slots / SLOT_SIZE, element_at(in_slots % SLOT_SIZE, false));
 }
 
@@ -107,8 +122,8 @@ static unsigned print_differing_of(FILE *to, const struct call *c, enum piece p,
         fprintf(to, "  %s byte %ld", PIECE_NAME[p], i);
         if (!lent)
             fprintf(to, " (outside)");
-        else if (p == STORE)
-            print_place(to, (size_t)i);
+        else if (is_store(p))
+            print_place(to, p == TARGET ? &LAYOUTS[LARGE] : layout, (size_t)i);
         fprintf(to, ": before %02X, library %02X, %s %02X\n", was, lib, other, oth);
         told++;
     }
@@ -306,7 +321,7 @@ void print_lent(const struct telling *t, size_t store_bytes)
     for (int p = 0; p < PIECES; p++) {
         if (c->kind->use[p] == NOT_LENT)
             continue;
-        if (p == STORE)
+        if (is_store(p))
             print_piece(t->to, c, p, store_bytes);
         else if (c->kind->hand != NO_HAND)
             print_handed_over(t);
@@ -331,6 +346,8 @@ void print_tally(FILE *to, const uint64_t tally[KIND_COUNT][ANSWERS], struct man
             fprintf(to, "%8d", a);
     fprintf(to, "\n");
     for (size_t k = 0; k < KIND_COUNT; k++) {
+        if (!is_made(&KINDS[k], manner))
+            continue;
         fprintf(to, "%-18s", KINDS[k].name);
         for (int a = 0; a < ANSWERS; a++)
             if (can_answer(&KINDS[k], a, manner))

@@ -100,11 +100,18 @@ static void print_handed(FILE *to, const struct cover *v)
                 v->handed[h].empty, v->handed[h].full);
 }
 
+static void print_fullest(FILE *to, const struct cover *v, const struct layout *l)
+{
+    fprintf(to, "\n%-12s %8s %8s\n", "fullest", "at once", "of");
+    fprintf(to, "%-12s %8" PRIu64 " %8u\n%-12s %8" PRIu64 " %8u\n", "guests", v->guests, l->guests, "slots", v->slots,
+            l->slots);
+}
+
 /* ---- The lines that sum it up ---- */
 
-static void print_agreed(FILE *to, const struct figures *f)
+static void print_agreed(FILE *to, const struct figures *f, bool large)
 {
-    fprintf(to, "\nagreed: %" PRIu64 " of %" PRIu64 " calls", f->agreed, f->made);
+    fprintf(to, "\nagreed: %" PRIu64 " of %" PRIu64 " calls%s", f->agreed, f->made, large ? " of the large store" : "");
     if (f->skipped != 0)
         fprintf(to, "; %" PRIu64 " more were not made, since their part was left before", f->skipped);
     fprintf(to, "\n");
@@ -153,7 +160,8 @@ void print_score(FILE *to, const struct result *r)
     print_refused(to, &f->cover);
     print_buffers(to, &f->cover);
     print_handed(to, &f->cover);
-    print_agreed(to, f);
+    print_fullest(to, &f->cover, layout_of_night(r->order->manner));
+    print_agreed(to, f, r->order->manner.large);
     print_worth(to, &f->cover);
     fprintf(to, "verdict: %s, vendor %s\n", verdict_name(r->verdict), r->order->vendor);
 }

@@ -203,6 +203,7 @@ bool start_vendor(struct vendor *v, char why[DESK_TEXT])
     struct deed deed = { .made = true };
     await_slowly(v, NULL, &deed);
     if (deed.returned && d->unfit[0] == '\0') {
+        v->converts = !d->lacks_conversion;
         drop_output(v);
         return true;
     }

@@ -45,6 +45,7 @@ struct vendor {
     pid_t pid;                /* 0: there is no process */
     int output;               /* what the process writes on standard output */
     const uint8_t *base;      /* where it has the window */
+    bool converts;            /* it exports adk_convert */
     uint32_t turn;            /* of the call that was posted last */
     unsigned hung;            /* how many calls did not return in time */
 };

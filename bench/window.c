@@ -80,7 +80,7 @@ uint8_t *lent_at(const struct window *w, enum piece p, size_t len)
 
 static bool is_shared(const struct call *c, enum piece p, bool keeps_store)
 {
-    return c->kind->use[p] != NOT_LENT && (p != STORE || !keeps_store);
+    return c->kind->use[p] != NOT_LENT && (!is_store(p) || !keeps_store);
 }
 
 void put_call(struct window *w, const struct call *c, bool keeps_store)
@@ -90,6 +90,8 @@ void put_call(struct window *w, const struct call *c, bool keeps_store)
     d->call.kind = (size_t)(c->kind - KINDS);
     memcpy(d->call.len, c->len, sizeof c->len);
     memcpy(d->call.n, c->n, sizeof c->n);
+    if (c->was_target && keeps_store)
+        memcpy(lent_at(w, STORE, ADK_LARGE_STORE_SIZE), lent_at(w, TARGET, ADK_LARGE_STORE_SIZE), ADK_LARGE_STORE_SIZE);
     for (int p = 0; p < PIECES; p++)
         if (is_shared(c, p, keeps_store))
             memcpy(lent_at(w, p, c->len[p]) - GUARD, memory[BEFORE][p] - GUARD, GUARD + c->len[p]);

@@ -37,6 +37,7 @@ struct desk {
     struct posted_call call;
     adk_found found;
     char unfit[DESK_TEXT]; /* why the library cannot be called, if it cannot */
+    bool lacks_conversion;
     uint32_t back;
 };
 
@@ -57,7 +58,8 @@ void free_window(struct window *w);
 uint8_t *lent_at(const struct window *w, enum piece p, size_t len);
 
 /* Puts a call and what it is lent into the window. The bytes in front of a piece go with it; behind it there is nothing
-   that could be touched. keeps_store: the store is the vendor's own; it is neither written nor looked at. */
+   that could be touched. keeps_store: the store is the vendor's own; it is neither written nor looked at, but what a
+   conversion had as its target is the store from then on. */
 void put_call(struct window *w, const struct call *c, bool keeps_store);
 
 /* Whether the bytes are those that the library left. */

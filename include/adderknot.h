@@ -36,30 +36,53 @@ extern "C" {
 /*
  * THE STORE
  *
- * ADK_STORE_SIZE bytes, room for ADK_GUESTS guests, numbered from 1, and ADK_SLOTS vCPUs in all. Numbers in it have
- * their most significant byte first:
+ * There are two sizes, told apart by length. Every call takes both, and any other length is ADK_BAD_STORE:
  *
+ *                bytes                             guests                        slots of vCPUs
+ *     small      29,580   ADK_STORE_SIZE           1 to 8    ADK_GUESTS          16   ADK_SLOTS
+ *     large     119,924   ADK_LARGE_STORE_SIZE     1 to 63   ADK_LARGE_GUESTS    64   ADK_LARGE_SLOTS
+ *
+ * Slots are numbered from 0. Fields are packed most significant first: numbers have their most significant byte first,
+ * and the first of several bits is the most significant of the first byte.
+ *
+ *     the small store
  *     from        bytes          holds
  *     byte 0      8              the agreed capabilities
- *     byte 8      1              the live guests, guest 1 the most significant bit
+ *     byte 8      1              the live guests: 8 bits, guest 1 first
  *     byte 9      1              zero
- *     byte 10     16 * 2         the slot words, from the most significant bit down: used (1 bit), guest (4 bits), vCPU
- *                                (11 bits); that of guest 3, vCPU 2047 is 0x9FFF
- *     byte 42     2              the taken marks, slot 0 the most significant bit: whether L1 has the state of the vCPU
- *                                in the slot
- *     byte 44     8 * 52         the values of each guest: logical PVR (element 0x0003) at 0, TB offset (0x0004) at 4,
- *                                partition table (0x0005) at 12, process table (0x0006) at 36
- *     byte 460    16 * 1,820     the values of the vCPU in each slot, in order of element ID without gaps
+ *     byte 10     16 * 2         the slot words, 16 bits each: used (1 bit), guest (4 bits), vCPU (11 bits); that of
+ *                                guest 3, vCPU 2047 is 0x9FFF
+ *     byte 42     2              the taken marks: 16 bits, slot 0 first
+ *     byte 44     8 * 52         the values of each guest
+ *     byte 460    16 * 1,820     the values of the vCPU in each slot
  *
- * A store is well formed if its length is ADK_STORE_SIZE, byte 9 is zero, no capability but bits 1 and 2 is agreed,
- * each used word names a live guest, no two used words name the same guest and vCPU, unused words are zero, and no
- * unused slot has a taken mark. Value bytes may be anything, those of a taken vCPU too. adk_fresh_store makes a store
- * of any ADK_STORE_SIZE bytes; every other call that is lent a store keeps a well-formed one well formed and answers
- * ADK_BAD_STORE for one that is not.
+ *     the large store
+ *     from        bytes          holds
+ *     byte 0      8              the agreed capabilities
+ *     byte 8      8              the live guests: 63 bits, guest 1 first; the last bit is zero
+ *     byte 16     8              the taken marks: 64 bits, slot 0 first
+ *     byte 24     144            the slot words, 64 of 18 bits without gaps: used (1 bit), guest (6 bits), vCPU (11
+ *                                bits); that of guest 3, vCPU 2047 is 0x21FFF. Word i begins at bit 18 * i of them
+ *     byte 168    63 * 52        the values of each guest
+ *     byte 3,444  64 * 1,820     the values of the vCPU in each slot
+ *
+ * A taken mark tells whether L1 has the state of the vCPU in the slot. The values of a guest are its logical PVR
+ * (element 0x0003) at 0, TB offset (0x0004) at 4, partition table (0x0005) at 12 and process table (0x0006) at 36;
+ * those of a vCPU stand in order of element ID without gaps.
+ *
+ * A store is well formed if its length is one of the two, byte 9 of a small one or the last live bit of a large one is
+ * zero, no capability but bits 1 and 2 is agreed, each used word names a live guest, no two used words name the same
+ * guest and vCPU, unused words are zero, and no unused slot has a taken mark. Value bytes may be anything, those of a
+ * taken vCPU too. adk_fresh_store makes a store of any bytes, and adk_convert a large one of a small one; every other
+ * call that is lent a store keeps a well-formed one well formed and answers ADK_BAD_STORE for one that is not.
  */
 #define ADK_STORE_SIZE 29580
 #define ADK_GUESTS 8
 #define ADK_SLOTS 16
+
+#define ADK_LARGE_STORE_SIZE 119924
+#define ADK_LARGE_GUESTS 63
+#define ADK_LARGE_SLOTS 64
 
 /* The greatest vCPU id. */
 #define ADK_VCPU_MAX 2047
@@ -294,13 +317,14 @@ enum {
  *     r3                          Given when
  *  0  ADK_OK                      success. r4: get capabilities, the offered bitmap; create guest, the guest's
  *                                 number; run, the exit reason; clock, the time
- *  1  ADK_BAD_STORE               the store is not well formed
+ *  1  ADK_BAD_STORE               the store is not well formed; conversion: the source is not a well-formed small one
  *  2  ADK_BAD_FLAG                a flag bit is set that the call does not support. r4: the lowest-numbered such bit
  *  3  ADK_BAD_PARAMETER           the guest is not live; create guest: the token is not ADK_TOKEN; set capabilities:
  *                                 a bit that is not offered. r4: set capabilities, 1
  *  4  ADK_BAD_VCPU                the vCPU id is above ADK_VCPU_MAX, or (not when creating) the vCPU is absent
  *  5  ADK_BAD_LENGTH              the buffer has under ADK_BUFFER_MIN or over ADK_BUFFER_MAX bytes; never in a run.
- *                                 Taking a vCPU: under ADK_FORM_MAX; giving it back: under ADK_FORM_MIN
+ *                                 Taking a vCPU: under ADK_FORM_MAX; giving it back: under ADK_FORM_MIN. Conversion:
+ *                                 the target has other than ADK_LARGE_STORE_SIZE bytes
  *  6  ADK_INVALID_ELEMENT_ID      get and set state, run input: an element's ID is not listed, of the wrong scope, not
  *                                 permitted in the call, or not offered to a POWER9 guest. r4: its index, from 0; r5:
  *                                 its byte offset; in a run input r4 is the offset and r5 the index. Lookup: no counted
@@ -355,14 +379,15 @@ typedef struct {
 /*
  * THE CALLS
  *
- * store, store_len: the store. flags: the flag bits, of which the call supports none unless its comment names some.
- * guest: a guest number, as adk_create_guest gave it. vcpu: a vCPU id, chosen by the caller.
+ * store, store_len: the store, a small or a large one. flags: the flag bits, of which the call supports none unless its
+ * comment names some. guest: a guest number, as adk_create_guest gave it. vcpu: a vCPU id, chosen by the caller.
  */
 
 /*
- * Makes a fresh store: all bytes zero, no capability agreed, no guest. The bytes may be anything before.
+ * Makes a fresh store, small or large by its length: all bytes zero, no capability agreed, no guest. The bytes may be
+ * anything before.
  *
- * Answers: ADK_BAD_STORE (store_len is not ADK_STORE_SIZE), ADK_OK.
+ * Answers: ADK_BAD_STORE (store_len is neither ADK_STORE_SIZE nor ADK_LARGE_STORE_SIZE), ADK_OK.
  */
 adk_answer adk_fresh_store(uint8_t *store, size_t store_len);
 
@@ -384,8 +409,8 @@ adk_answer adk_get_capabilities(const uint8_t *store, size_t store_len, uint64_t
 adk_answer adk_set_capabilities(uint8_t *store, size_t store_len, uint64_t flags, uint64_t bitmap);
 
 /*
- * H_GUEST_CREATE. Creates a guest under the lowest free number from 1 to ADK_GUESTS. Its values are zero, and it has no
- * vCPU. token is ADK_TOKEN.
+ * H_GUEST_CREATE. Creates a guest under the lowest free number, from 1 to ADK_GUESTS in a small store and to
+ * ADK_LARGE_GUESTS in a large one. Its values are zero, and it has no vCPU. token is ADK_TOKEN.
  *
  * Answers: ADK_BAD_STORE, ADK_BAD_FLAG, ADK_BAD_PARAMETER (another token), ADK_NOT_ENOUGH_RESOURCES, ADK_OK (r4: the
  * guest's number).
@@ -495,6 +520,19 @@ adk_answer adk_delete_guest(uint8_t *store, size_t store_len, uint64_t flags, ui
  * Answers: ADK_BAD_STORE, ADK_BAD_PARAMETER (the guest is not live), ADK_OK (r4: the guest's time).
  */
 adk_answer adk_guest_clock(const uint8_t *store, size_t store_len, uint64_t guest, uint64_t timebase);
+
+/*
+ * Writes a small store as a large one. Capabilities, live guests and vCPUs, taken marks, and the values of each guest
+ * and slot, in use or not, are then those of the small store, under the same numbers; every other byte of the large one
+ * is zero. Its bytes may be anything before. The small store stays.
+ *
+ * From then on any list of the eight calls and the clock gives the same answers and buffers on both stores, up to the
+ * first create that the small one answers with ADK_NOT_ENOUGH_RESOURCES.
+ *
+ * Answers: ADK_BAD_STORE (the source is not a well-formed small store; a large store is none), ADK_BAD_LENGTH
+ * (large_len is not ADK_LARGE_STORE_SIZE), ADK_OK.
+ */
+adk_answer adk_convert(const uint8_t *small, size_t small_len, uint8_t *large, size_t large_len);
 
 /*
  * Finds an element in a guest state buffer. Of several elements with the ID the last counts. Any ID may be asked for;

@@ -6,31 +6,31 @@ use answer::registers_of;
 ghost use mathlib.Core.Path.{_≡_};
 ghost use Rattle.answer.specs.declared.Call.{Call};
 ghost use Rattle.answer.specs.Answer.{told};
-ghost use Rattle.store.specs.Layout.{small};
+ghost use Rattle.store.specs.Layout.{layoutOf};
 ghost use Rattle.gsb.specs.Lookup.{lookedUp};
 ghost use Rattle.state.specs.State.{getState, setState};
 ghost use Rattle.run.specs.Run.{runVcpu};
 ghost use Rattle.guests.specs.Guests.{createGuest, createVcpu, deleteGuest};
-ghost use Rattle.l0.specs.Calls.{freshStore, getCapabilities, setCapabilities, guestClock};
+ghost use Rattle.l0.specs.Calls.{freshStore, getCapabilities, setCapabilities, guestClock, convert};
 ghost use Rattle.adderknot.specs.Entries.{Left, leaves, Filled, fills, tells, foundAt};
 
 #[no_mangle]
 pub extern "C" fn adk_fresh_store(store: &mut [u8]) -> Registers
-    ensures { λ r. ⌜ _≡_ {A = Left} (record { registers = r; store = now (store .exit) }) (leaves Call.FreshStore (freshStore small (now (store .entry)))) ⌝ }
+    ensures { λ r. ⌜ _≡_ {A = Left} (record { registers = r; store = now (store .exit) }) (leaves Call.FreshStore (freshStore (layoutOf (now (store .entry))) (now (store .entry)))) ⌝ }
 {
     registers_of(Call::FreshStore, l0::fresh_store(store))
 }
 
 #[no_mangle]
 pub extern "C" fn adk_get_capabilities(store: &[u8], flags: u64) -> Registers
-    ensures { λ r. ⌜ r ≡ tells Call.GetCapabilities (getCapabilities small (now (store .entry)) flags) ⌝ }
+    ensures { λ r. ⌜ r ≡ tells Call.GetCapabilities (getCapabilities (layoutOf (now (store .entry))) (now (store .entry)) flags) ⌝ }
 {
     registers_of(Call::GetCapabilities, l0::get_capabilities(store, flags))
 }
 
 #[no_mangle]
 pub extern "C" fn adk_set_capabilities(store: &mut [u8], flags: u64, bitmap: u64) -> Registers
-    ensures { λ r. ⌜ _≡_ {A = Left} (record { registers = r; store = now (store .exit) }) (leaves Call.SetCapabilities (setCapabilities small (now (store .entry)) flags bitmap)) ⌝ }
+    ensures { λ r. ⌜ _≡_ {A = Left} (record { registers = r; store = now (store .exit) }) (leaves Call.SetCapabilities (setCapabilities (layoutOf (now (store .entry))) (now (store .entry)) flags bitmap)) ⌝ }
 {
     registers_of(
         Call::SetCapabilities,
@@ -40,14 +40,14 @@ pub extern "C" fn adk_set_capabilities(store: &mut [u8], flags: u64, bitmap: u64
 
 #[no_mangle]
 pub extern "C" fn adk_create_guest(store: &mut [u8], flags: u64, token: u64) -> Registers
-    ensures { λ r. ⌜ _≡_ {A = Left} (record { registers = r; store = now (store .exit) }) (leaves Call.CreateGuest (createGuest small (now (store .entry)) flags token)) ⌝ }
+    ensures { λ r. ⌜ _≡_ {A = Left} (record { registers = r; store = now (store .exit) }) (leaves Call.CreateGuest (createGuest (layoutOf (now (store .entry))) (now (store .entry)) flags token)) ⌝ }
 {
     registers_of(Call::CreateGuest, guests::create_guest(store, flags, token))
 }
 
 #[no_mangle]
 pub extern "C" fn adk_create_vcpu(store: &mut [u8], flags: u64, guest: u64, vcpu: u64) -> Registers
-    ensures { λ r. ⌜ _≡_ {A = Left} (record { registers = r; store = now (store .exit) }) (leaves Call.CreateVcpu (createVcpu small (now (store .entry)) flags guest vcpu)) ⌝ }
+    ensures { λ r. ⌜ _≡_ {A = Left} (record { registers = r; store = now (store .exit) }) (leaves Call.CreateVcpu (createVcpu (layoutOf (now (store .entry))) (now (store .entry)) flags guest vcpu)) ⌝ }
 {
     registers_of(
         Call::CreateVcpu,
@@ -63,7 +63,7 @@ pub extern "C" fn adk_get_state(
     vcpu: u64,
     buffer: &mut [u8],
 ) -> Registers
-    ensures { λ r. ⌜ _≡_ {A = Filled} (record { registers = r; store = now (store .exit); buffer = now (buffer .exit) }) (fills Call.GetState (getState small (now (store .entry)) flags guest vcpu (now (buffer .entry)))) ⌝ }
+    ensures { λ r. ⌜ _≡_ {A = Filled} (record { registers = r; store = now (store .exit); buffer = now (buffer .exit) }) (fills Call.GetState (getState (layoutOf (now (store .entry))) (now (store .entry)) flags guest vcpu (now (buffer .entry)))) ⌝ }
 {
     registers_of(
         Call::GetState,
@@ -79,7 +79,7 @@ pub extern "C" fn adk_set_state(
     vcpu: u64,
     buffer: &[u8],
 ) -> Registers
-    ensures { λ r. ⌜ _≡_ {A = Left} (record { registers = r; store = now (store .exit) }) (leaves Call.SetState (setState small (now (store .entry)) flags guest vcpu (now (buffer .entry)))) ⌝ }
+    ensures { λ r. ⌜ _≡_ {A = Left} (record { registers = r; store = now (store .exit) }) (leaves Call.SetState (setState (layoutOf (now (store .entry))) (now (store .entry)) flags guest vcpu (now (buffer .entry)))) ⌝ }
 {
     registers_of(
         Call::SetState,
@@ -98,7 +98,7 @@ pub extern "C" fn adk_run_vcpu(
     effect: &[u8],
     exit_reason: u64,
 ) -> Registers
-    ensures { λ r. ⌜ _≡_ {A = Filled} (record { registers = r; store = now (store .exit); buffer = now (output .exit) }) (fills Call.RunVcpu (runVcpu small (now (store .entry)) flags guest vcpu (now (input .entry)) (now (output .entry)) (now (effect .entry)) «exit_reason»)) ⌝ }
+    ensures { λ r. ⌜ _≡_ {A = Filled} (record { registers = r; store = now (store .exit); buffer = now (output .exit) }) (fills Call.RunVcpu (runVcpu (layoutOf (now (store .entry))) (now (store .entry)) flags guest vcpu (now (input .entry)) (now (output .entry)) (now (effect .entry)) «exit_reason»)) ⌝ }
 {
     registers_of(
         Call::RunVcpu,
@@ -117,14 +117,14 @@ pub extern "C" fn adk_run_vcpu(
 
 #[no_mangle]
 pub extern "C" fn adk_delete_guest(store: &mut [u8], flags: u64, guest: u64) -> Registers
-    ensures { λ r. ⌜ _≡_ {A = Left} (record { registers = r; store = now (store .exit) }) (leaves Call.DeleteGuest (deleteGuest small (now (store .entry)) flags guest)) ⌝ }
+    ensures { λ r. ⌜ _≡_ {A = Left} (record { registers = r; store = now (store .exit) }) (leaves Call.DeleteGuest (deleteGuest (layoutOf (now (store .entry))) (now (store .entry)) flags guest)) ⌝ }
 {
     registers_of(Call::DeleteGuest, guests::delete_guest(store, flags, guest))
 }
 
 #[no_mangle]
 pub extern "C" fn adk_guest_clock(store: &[u8], guest: u64, timebase: u64) -> Registers
-    ensures { λ r. ⌜ r ≡ tells Call.GuestClock (guestClock small (now (store .entry)) guest timebase) ⌝ }
+    ensures { λ r. ⌜ r ≡ tells Call.GuestClock (guestClock (layoutOf (now (store .entry))) (now (store .entry)) guest timebase) ⌝ }
 {
     registers_of(Call::GuestClock, l0::guest_clock(store, guest, timebase))
 }
@@ -137,6 +137,13 @@ pub struct Found {
     pub r5: u64,
     pub at: u64,
     pub len: u64,
+}
+
+#[no_mangle]
+pub extern "C" fn adk_convert(small: &[u8], large: &mut [u8]) -> Registers
+    ensures { λ r. ⌜ _≡_ {A = Left} (record { registers = r; store = now (large .exit) }) (leaves Call.Convert (convert (now (small .entry)) (now (large .entry)))) ⌝ }
+{
+    registers_of(Call::Convert, l0::convert(small, large))
 }
 
 #[no_mangle]

@@ -9,7 +9,7 @@ use borrow.Author.Tests.{le-leb, lt-leb, ltb-true, not-false}
 use Rattle.answer.specs.declared.Fault.{Fault}
 use Rattle.answer.specs.declared.Fault.the-variants.{Store, Guest, Vcpu, Taken}
 use Rattle.store.specs.declared.Layout.{Layout}
-use Rattle.store.specs.Layout.{Sound, small, guestBytes, slotBytes, guestAt, slotAt}
+use Rattle.store.specs.Layout.{Sound, guestBytes, slotBytes, guestAt, slotAt}
 use Rattle.store.specs.Header.{header, live, wordOf, slotHolding, slotOf, isTaken}
 use Rattle.store.specs.Store.{wellFormed}
 use Rattle.store.proofs.Tests.{live-parts}
@@ -169,15 +169,6 @@ held-fits t l len base h e f = omega (arith, held-vcpu t l len base h e)
 pub held-inside : (t : Target) (l : Layout) (len base : ℕ) → Held t false l len → t ≡ At base → base + 8 + 8 ≤ len
 held-inside t l len base h e = omega (arith, held-vcpu t l len base h e)
 
--- ---- two layouts that are the one
-module _ (l m : Layout) (p : l ≡ small) (q : m ≡ small) where
-  pub target-same : (s : List ℕ) (supported flags : ℕ) (wide : Bool) (guest vcpu : ℕ) (r : Target) → r ≡ targetOf m s supported flags wide guest vcpu
-      → r ≡ targetOf l s supported flags wide guest vcpu
-  target-same s supported flags wide guest vcpu r e = e ∙ ap (λ (x : Layout). targetOf x s supported flags wide guest vcpu) (q ∙ sym p)
-
-  pub held-same : (r : Target) (wide : Bool) (n : ℕ) → Held r wide m n → Held r wide l n
-  held-same r wide n h = subst (λ (x : Layout). Held r wide x n) (q ∙ sym p) h
-
 -- ---- the answers of `vcpu_slot`
 module _ (l : Layout) (s : List ℕ) (guest vcpu : ℕ) (g : Bool) (p : g ≡ wellFormed l s) where
   pub slot-malformed : not g ≡ true → SlotRefused Store ≡ vcpuSlot l s guest vcpu
@@ -217,3 +208,18 @@ slot-within l h guest vcpu j e k = go (live l h guest) (ltb vcpu 2048) refl (sub
     go true true q i = ltb-true _ _ q
     go true false q i = absurd (omega arith)
     go false y q i = absurd (omega arith)
+
+-- ---- in the layout that the store's length tells
+module _ (l m : Layout) (e : l ≡ m) where
+  pub target-sized : (s : List ℕ) (supported flags : ℕ) (wide : Bool) (guest vcpu : ℕ) (r : Target) → r ≡ targetOf l s supported flags wide guest vcpu
+      → r ≡ targetOf m s supported flags wide guest vcpu
+  target-sized s supported flags wide guest vcpu r q = q ∙ ap (λ (x : Layout). targetOf x s supported flags wide guest vcpu) e
+
+  pub held-sized : (r : Target) (wide : Bool) (n : ℕ) → Held r wide l n → Held r wide m n
+  held-sized r wide n h = subst (λ (x : Layout). Held r wide x n) e h
+
+  pub slot-sized : (s : List ℕ) (guest vcpu : ℕ) (r : Slot) → r ≡ vcpuSlot l s guest vcpu → r ≡ vcpuSlot m s guest vcpu
+  slot-sized s guest vcpu r q = q ∙ ap (λ (x : Layout). vcpuSlot x s guest vcpu) e
+
+  pub within-sized : (r : Slot) (n vcpu : ℕ) → Within r l n vcpu → Within r m n vcpu
+  within-sized r n vcpu h = subst (λ (x : Layout). Within r x n vcpu) e h

@@ -5,14 +5,14 @@ use store::Layout;
 use store::guest_at;
 use store::is_live;
 use store::is_taken;
+use store::layout_of;
 use store::slot_at;
 use store::slot_of;
-use store::small_layout;
 use store::well_formed;
 ghost use mathlib.Core.Path.{_≡_};
 ghost use Prim.Native.Nat.{_<_};
 ghost use lib.ListN.{length};
-ghost use Rattle.store.specs.Layout.{Sound, small};
+ghost use Rattle.store.specs.Layout.{layoutOf};
 ghost use Rattle.store.specs.Header.{outside};
 ghost use Rattle.admission.specs.Refusals.{admission};
 ghost use Rattle.admission.specs.Target.{targetOf, Held, vcpuSlot, Within};
@@ -44,7 +44,7 @@ pub fn other_bits(supported: u64, x: u64) -> u64
 
 // 1 and 2, with which every call with flags begins.
 pub fn admit(store: &[u8], l: Layout, supported: u64, flags: u64) -> Admission
-    requires { ⌜ Sound l ⌝ }
+    requires { ⌜ l ≡ layoutOf (now store) ⌝ }
     ensures { λ r. ⌜ r ≡ admission l (now (store .entry)) supported flags ⌝ }
 {
     if !well_formed(store, l) {
@@ -57,8 +57,7 @@ pub fn admit(store: &[u8], l: Layout, supported: u64, flags: u64) -> Admission
     Admission::Admitted
 }
 
-// The tests 1 to 4 and 16, and where the values of the guest or the vCPU start.
-pub fn target_of(
+fn target_with(
     store: &[u8],
     l: Layout,
     supported: u64,
@@ -67,7 +66,7 @@ pub fn target_of(
     guest: usize,
     vcpu: usize,
 ) -> Target
-    requires { ⌜ Sound l ⌝ }
+    requires { ⌜ l ≡ layoutOf (now store) ⌝ }
     ensures { λ r. ⌜ r ≡ targetOf l (now (store .entry)) supported flags wide guest vcpu ⌝ }
     ensures { λ r. ⌜ Held r wide l (length (now (store .entry))) ⌝ }
 {
@@ -92,26 +91,24 @@ pub fn target_of(
     Target::At(slot_at(l, slot))
 }
 
-// The same where the layout is the one that there is: a copy for all callers, in which its numbers are known.
-pub fn small_target(
+// The tests 1 to 4 and 16, and where the values of the guest or the vCPU start.
+pub fn target_of(
     store: &[u8],
-    l: Layout,
     supported: u64,
     flags: u64,
     wide: bool,
     guest: usize,
     vcpu: usize,
 ) -> Target
-    requires { ⌜ l ≡ small ⌝ }
-    ensures { λ r. ⌜ r ≡ targetOf l (now (store .entry)) supported flags wide guest vcpu ⌝ }
-    ensures { λ r. ⌜ Held r wide l (length (now (store .entry))) ⌝ }
+    ensures { λ r. ⌜ r ≡ targetOf (layoutOf (now (store .entry))) (now (store .entry)) supported flags wide guest vcpu ⌝ }
+    ensures { λ r. ⌜ Held r wide (layoutOf (now (store .entry))) (length (now (store .entry))) ⌝ }
 {
-    target_of(store, small_layout(), supported, flags, wide, guest, vcpu)
+    let l = layout_of(store);
+    target_with(store, l, supported, flags, wide, guest, vcpu)
 }
 
-// The tests 1, 3 and 4, for the calls that hand a vCPU over.
-pub fn vcpu_slot(store: &[u8], l: Layout, guest: usize, vcpu: usize) -> Slot
-    requires { ⌜ Sound l ⌝ }
+fn slot_with(store: &[u8], l: Layout, guest: usize, vcpu: usize) -> Slot
+    requires { ⌜ l ≡ layoutOf (now store) ⌝ }
     ensures { λ r. ⌜ r ≡ vcpuSlot l (now (store .entry)) guest vcpu ⌝ }
     ensures { λ r. ⌜ Within r l (length (now (store .entry))) vcpu ⌝ }
 {
@@ -126,4 +123,13 @@ pub fn vcpu_slot(store: &[u8], l: Layout, guest: usize, vcpu: usize) -> Slot
         return Slot::Refused(Fault::Vcpu);
     }
     Slot::At(slot)
+}
+
+// The tests 1, 3 and 4, for the calls that hand a vCPU over.
+pub fn vcpu_slot(store: &[u8], guest: usize, vcpu: usize) -> Slot
+    ensures { λ r. ⌜ r ≡ vcpuSlot (layoutOf (now (store .entry))) (now (store .entry)) guest vcpu ⌝ }
+    ensures { λ r. ⌜ Within r (layoutOf (now (store .entry))) (length (now (store .entry))) vcpu ⌝ }
+{
+    let l = layout_of(store);
+    slot_with(store, l, guest, vcpu)
 }

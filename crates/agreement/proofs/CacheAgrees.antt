@@ -1,5 +1,5 @@
--- THEOREM `cache-agrees`, which is demand 3 whole: for every list of operations, the L1 with a cache and the plain L1 agree; `agrees` is the
--- same of any layout. THEOREM `except-only`: what it leaves out of the comparison. Assumes nothing.
+-- THEOREM `cache-agrees`, which is demand 3 whole: for every list of operations, the L1 with a cache and the plain L1 agree, on a
+-- store of any sound layout. THEOREM `except-only`: what it leaves out of the comparison. Assumes nothing.
 use mathlib.Core.Path.{_≡_, refl, sym, ap, _∙_, subst}
 use mathlib.Core.Bool.{Bool, true, false, cond}
 use mathlib.Core.List.{List, [], _∷_}
@@ -9,10 +9,10 @@ use Rattle.answer.specs.declared.Registers.{Registers}
 use Rattle.answer.specs.Answer.{three}
 use Rattle.rules.specs.Rules.{goodInput, goodOutput}
 use Rattle.store.specs.declared.Layout.{Layout}
-use Rattle.store.specs.Layout.{Sound, small}
+use Rattle.store.specs.Layout.{Sound, small, large}
 use Rattle.store.specs.Header.{header, slotOf}
 use Rattle.store.proofs.Search.{both}
-use Rattle.store.proofs.Small.{sound-small}
+use Rattle.store.proofs.Sizes.{sound-small, sound-large}
 use Rattle.run.specs.Run.{inputSize, outputSize}
 use Rattle.l1.specs.Marks.{Cache}
 use Rattle.agreement.specs.Agree.{Op, Write, Read, Run, Other, isExcepted, asCached, Cached, cachedTurn, plainTurn, since, Agree, Allowed, Start}
@@ -50,9 +50,9 @@ module _ (l : Layout) (so : Sound l) (g v j : ℕ) (below : j < l .slots) (pvr :
       (t .0 .same, agree os (t .1) (cachedTurn l g v pvr o b .next) (plainTurn l g v o p .next) (since o (plainTurn l g v o p .shown .answer) ws) (t .0 .next))
 
 -- of any layout
-pub agrees : (l : Layout) → Sound l → (guest vcpu pvr : ℕ) (s : List ℕ) (c : Cache) → Start l guest vcpu pvr s c → (os : List Op) → Allowed guest os
+pub cache-agrees : (l : Layout) → Sound l → (guest vcpu pvr : ℕ) (s : List ℕ) (c : Cache) → Start l guest vcpu pvr s c → (os : List Op) → Allowed guest os
     → Agree l guest vcpu pvr os [] (record { cache = c; store = s }) s
-agrees l so guest vcpu pvr s c st os a =
+cache-agrees l so guest vcpu pvr s c st os a =
     let j = slotOf l (header l s) guest vcpu in
     let o : Ours l so guest vcpu j (st .live) pvr s = record { good = st .formed; slot = refl; here = st .here; told = st .told } in
     let e = ours-base l so guest vcpu j (st .live) pvr s o in
@@ -63,7 +63,11 @@ agrees l so guest vcpu pvr s c st os a =
     (subst (λ (x : ℕ). 2424 ≤ inputSize s x) e (st .wide))
     (ap (λ (x : ℕ). goodOutput (outputSize s x)) (sym e) ∙ st .output) (c .values) (st .values)))
 
--- of the store of 29,580 bytes
-pub cache-agrees : (guest vcpu pvr : ℕ) (s : List ℕ) (c : Cache) → Start small guest vcpu pvr s c → (os : List Op) → Allowed guest os
+-- of a store of either size
+pub cache-agrees-small : (guest vcpu pvr : ℕ) (s : List ℕ) (c : Cache) → Start small guest vcpu pvr s c → (os : List Op) → Allowed guest os
     → Agree small guest vcpu pvr os [] (record { cache = c; store = s }) s
-cache-agrees guest vcpu pvr s c st os a = agrees small sound-small guest vcpu pvr s c st os a
+cache-agrees-small = cache-agrees small sound-small
+
+pub cache-agrees-large : (guest vcpu pvr : ℕ) (s : List ℕ) (c : Cache) → Start large guest vcpu pvr s c → (os : List Op) → Allowed guest os
+    → Agree large guest vcpu pvr os [] (record { cache = c; store = s }) s
+cache-agrees-large = cache-agrees large sound-large

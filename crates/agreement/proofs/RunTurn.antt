@@ -8,7 +8,7 @@ use lib.Dec.{eqb, ltb, leb}
 use lib.ListN.{length}
 use borrow.Author.Tests.{le-ltb, ltb-false, leb-true, not-false, eqb-true, ne-eqb}
 use Rattle.octets.specs.Bytes.{bytesAt, put, zeros, right}
-use Rattle.octets.proofs.Bytes.{length-put, length-zeros}
+use Rattle.octets.proofs.Bytes.{length-put, length-zeros, zeros-part}
 use Rattle.answer.specs.declared.Fault.{Fault}
 use Rattle.answer.specs.declared.Fault.the-variants.{None, Store, Flag, Guest, Token, Capability, Vcpu, Length, Element, Room, Exists, Unregistered, Short, Exit, Effect, Cache as CacheBad, Taken, Form, InUse}
 use Rattle.answer.specs.declared.RunBuffer.the-variants.{Input, Output}
@@ -24,7 +24,7 @@ use Rattle.gsb.specs.declared.Walked.{Walked}
 use Rattle.gsb.specs.declared.Walked.the-variants.{Done, Stopped}
 use Rattle.gsb.specs.Walk.{countOf, badLength, firstBad}
 use Rattle.gsb.specs.Message.{message, Begins}
-use Rattle.gsb.proofs.RoundTrip.{begins-self, begins-put, begins-first, zeros-first, zeros-good}
+use Rattle.gsb.proofs.RoundTrip.{begins-self, begins-put, begins-first, zeros-good}
 use Rattle.store.specs.declared.Layout.{Layout}
 use Rattle.store.specs.Layout.{Sound, guestBytes, guestAt}
 use Rattle.store.specs.Header.{header, capabilitiesOf, live, slotOf, isTaken}
@@ -276,7 +276,7 @@ module _ (l : Layout) (so : Sound l) (g v j : ℕ) (below-slots : j < l .slots) 
       open-lent = common-lent (header l s) (inputSize s place) (outputSize s place) e
 
       blank-part : bytesAt blank 0 (inputSize p place) ≡ zeros (inputSize s place)
-      blank-part = ap (bytesAt blank 0) same-input ∙ zeros-first (length input) (inputSize s place) (open-lent .lent)
+      blank-part = ap (bytesAt blank 0) same-input ∙ zeros-part (length input) 0 (inputSize s place) (omega (arith, open-lent .lent))
 
       plain-on : runPlain l p flags g v input output effect exit ≡ firstOf (refuse p output) (ends s) (ran place p (zeros (inputSize s place)) output effect exit)
       unfolding runPlain

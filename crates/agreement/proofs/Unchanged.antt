@@ -16,7 +16,7 @@ use Rattle.elements.specs.Table.{numberOf}
 use Rattle.elements.specs.Later.{offerOf}
 use Rattle.exits.specs.Exits.{elementOf}
 use Rattle.store.specs.declared.Layout.{Layout}
-use Rattle.store.specs.Layout.{small}
+use Rattle.store.specs.Layout.{layoutOf}
 use Rattle.admission.specs.Refusals.{Outcome, success, refusal, Passed}
 use Rattle.admission.proofs.Judging.{each-way}
 use Rattle.state.specs.State.{getState}
@@ -73,10 +73,10 @@ module _ (s : List ℕ) (c : Cache) (flags guest vcpu pvr : ℕ) (input output e
   laid = put input 0 (message (pending c))
 
   abbrev tests : List (Bool × Fault)
-  tests = cachedTests small s c flags guest vcpu (length input) (length output) effect exit
+  tests = cachedTests (layoutOf s) s c flags guest vcpu (length input) (length output) effect exit
 
   abbrev gone : RunOutcome
-  gone = ranWith c laid (runVcpu small s flags guest vcpu laid output effect exit)
+  gone = ranWith c laid (runVcpu (layoutOf s) s flags guest vcpu laid output effect exit)
 
   -- past its tests a run of the cache is accepted: the input that it wrote is good
   past : Passed ((not (goodCache (offerOf pvr) c), CacheBad) ∷ tests) → gone .answer .fault ≡ None
@@ -88,7 +88,7 @@ module _ (s : List ℕ) (c : Cache) (flags guest vcpu pvr : ℕ) (input output e
   gone-on : Passed ((not (goodCache (offerOf pvr) c), CacheBad) ∷ tests) → NotAccepted Name.CacheRun (gone .answer) → ⊥
   gone-on p n = refused-fault Name.CacheRun (gone .answer) n (past p)
 
-  pub run-unchanged : Unrun s c input output (runCache small s c flags guest vcpu pvr input output effect exit)
+  pub run-unchanged : Unrun s c input output (runCache (layoutOf s) s c flags guest vcpu pvr input output effect exit)
   unfolding runCache
   run-unchanged =
       each-way (Unrun s c input output) (λ f. record { answer = refusal f; store = s; cache = c; input = input; output = output })

@@ -10,7 +10,7 @@ use Rattle.answer.specs.declared.RunBuffer.the-variants.{Input, Output}
 use Rattle.answer.specs.declared.Fault.{Fault}
 use Rattle.answer.specs.declared.Fault.the-variants.{None, Store, Flag, Guest, Token, Capability, Vcpu, Length, Element, Room, Exists, Unregistered, Short, Exit, Effect, Cache, Taken, Form, InUse}
 use Rattle.answer.specs.declared.Call.{Call}
-use Rattle.answer.specs.declared.Call.the-variants.{FreshStore, GetCapabilities, SetCapabilities, CreateGuest, CreateVcpu, GetState, SetState, RunVcpu, DeleteGuest, GuestClock, Lookup, CacheWrite, CacheRead, CacheRun}
+use Rattle.answer.specs.declared.Call.the-variants.{FreshStore, GetCapabilities, SetCapabilities, CreateGuest, CreateVcpu, GetState, SetState, RunVcpu, DeleteGuest, GuestClock, Convert, Lookup, CacheWrite, CacheRead, CacheRun}
 use Rattle.answer.specs.declared.Shown.{Shown}
 use Rattle.answer.specs.declared.Registers.{Registers}
 
@@ -49,6 +49,7 @@ placeShown SetState p = indexFirst p
 placeShown RunVcpu p = offsetFirst p
 placeShown DeleteGuest p = noPlace
 placeShown GuestClock p = noPlace
+placeShown Convert p = noPlace
 placeShown Lookup p = indexFirst p
 placeShown CacheWrite p = noPlace
 placeShown CacheRead p = noPlace

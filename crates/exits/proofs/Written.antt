@@ -1,12 +1,12 @@
 -- A row's elements written one behind the other: the one computed test that they fit, and the laws of the loop. Assumes nothing.
 use mathlib.Core.Path.{_≡_, refl, sym, ap, _∙_, subst}
-use mathlib.Core.Bool.{Bool, true, false, _&&_}
+use mathlib.Core.Bool.{Bool, true, false, _&&_, cond}
 use mathlib.Core.List.{List, [], _∷_, _++_}
 use Prim.Native.Nat.{ℕ, zero, suc, _+_, _-_, _≤_, _<_, _^_}
 use native.Mathlib.Nat.{not-suc-le-zero, le-of-suc-le-suc}
 use native.Mathlib.Numerals.{add-one}
 use native.Mathlib.Omega.{arith}
-use lib.Dec.{ltb, leb}
+use lib.Dec.{ltb, leb, eqb}
 use lib.ListN.{length, getD, take, List·getD-append}
 use lib.Seq.{take-suc, take-all}
 use borrow.Author.Tests.{leb-true, ltb-true}
@@ -19,7 +19,7 @@ use Rattle.elements.specs.Registers.{registerOf}
 use Rattle.elements.proofs.RegisterLaws.{is-register, register-element}
 use Rattle.gsb.specs.Message.{elementBytes, elementsBytes}
 use Rattle.gsb.proofs.Messages.{length-more, elements-none, elements-more}
-use Rattle.exits.specs.Exits.{exits, elementOf, weigh, bytesColumn, valued}
+use Rattle.exits.specs.Exits.{exits, rowOf, returned, elementOf, weigh, bytesColumn, valued}
 use Rattle.exits.specs.Private.{exitAt, codes}
 
 -- ---- what an element and a row must be
@@ -65,6 +65,19 @@ row-fits : (xs : List (ℕ × List ℕ)) (i : ℕ) → rowsFit xs ≡ true → i
 row-fits [] i e h = absurd (not-suc-le-zero h)
 row-fits (x ∷ xs) zero e h = both (rowFits (x .1)) (rowsFit xs) e .0
 row-fits (x ∷ xs) (suc i) e h = row-fits xs i (both (rowFits (x .1)) (rowsFit xs) e .1) (le-of-suc-le-suc h)
+
+-- so the elements of every exit, known or not, lie among a slot's values
+row-fit : (xs : List (ℕ × List ℕ)) (exit : ℕ) → rowsFit xs ≡ true → allFit (rowOf xs exit) ≡ true
+unfolding rowOf
+row-fit [] exit e = refl
+row-fit (x ∷ xs) exit e = go (eqb (x .0) exit) (both (rowFits (x .1)) (rowsFit xs) e) (row-fit xs exit)
+  where
+    go : (t : Bool) → (rowFits (x .1) ≡ true) × (rowsFit xs ≡ true) → (rowsFit xs ≡ true → allFit (rowOf xs exit) ≡ true) → allFit (cond t (x .1) (rowOf xs exit)) ≡ true
+    go true p ih = fits-row (x .1) (p .0) .all
+    go false p ih = ih (p .1)
+
+pub returned-fit : (exit : ℕ) → allFit (returned exit) ≡ true
+returned-fit exit = row-fit exits exit exits-fit
 
 long : length exits ≡ 7
 unfolding exits

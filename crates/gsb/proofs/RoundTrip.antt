@@ -8,11 +8,11 @@ use native.Mathlib.Numerals.{add-one}
 use native.Mathlib.Decide.{decLt}
 use native.Mathlib.Omega.{arith}
 use lib.Dec.{ltb, ltb→lt}
-use lib.ListN.{length, getD, take, drop, length-append, getD-replicate}
-use lib.Seq.{take-suc, take-length, take-append-seam, drop-append-seam, split-at, drop-at, ext-getD}
+use lib.ListN.{length, getD, take, drop, length-append}
+use lib.Seq.{take-suc, take-length, take-append-seam, drop-append-seam, split-at, drop-at}
 use borrow.Author.Tests.{lt-ltb, le-ltb}
 use Rattle.octets.specs.Bytes.{bytesAt, put, be, digits, zeros}
-use Rattle.octets.proofs.Bytes.{length-put, length-bytesAt, part-lent, part-of-part, read-back, whole, length-zeros, getD-bytesAt}
+use Rattle.octets.proofs.Bytes.{length-put, length-bytesAt, part-lent, part-of-part, read-back, whole, zeros-part}
 use Rattle.octets.proofs.Numbers.{be-part, be-of-digits, length-digits}
 use Rattle.answer.specs.declared.Bad.{Bad}
 use Rattle.answer.specs.declared.Bad.the-variants.{Id, Size, Value}
@@ -231,23 +231,11 @@ module _ (b : List ℕ) (z : bytesAt b 0 4 ≡ zeros 4) where
   pub message-zero : (k : Context) → (countOf b ≡ 0) × (firstBad k b ≡ Done)
   message-zero k = (zero-count, none-good k b zero-count)
 
-getD-zeros : (n i : ℕ) → i < n → getD (zeros n) i 0 ≡ 0
-unfolding zeros
-getD-zeros n i h = getD-replicate n i 0 0 h
-
--- the first n of m bytes of zero
-pub zeros-first : (m n : ℕ) → n ≤ m → bytesAt (zeros m) 0 n ≡ zeros n
-zeros-first m n h =
-    let l : length (bytesAt (zeros m) 0 n) ≡ n = length-bytesAt (zeros m) 0 n (omega (arith, length-zeros m)) in
-    ext-getD 0 (bytesAt (zeros m) 0 n) (zeros n) (l ∙ sym (length-zeros n))
-    (λ i c. let k : i < n = omega arith in
-    getD-bytesAt (zeros m) 0 n i k ∙ getD-zeros m (0 + i) (omega arith) ∙ sym (getD-zeros n i k))
-
 pub zeros-count : (n : ℕ) → 4 ≤ n → countOf (zeros n) ≡ 0
-zeros-count n h = zero-count (zeros n) (zeros-first n 4 h)
+zeros-count n h = zero-count (zeros n) (zeros-part n 0 4 (omega arith))
 
 pub zeros-good : (k : Context) (n : ℕ) → 4 ≤ n → firstBad k (zeros n) ≡ Done
-zeros-good k n h = message-zero (zeros n) (zeros-first n 4 h) k .1
+zeros-good k n h = message-zero (zeros n) (zeros-part n 0 4 (omega arith)) k .1
 
 -- ---- one element
 

@@ -5,13 +5,14 @@ use mathlib.Core.List.{List, [], _∷_}
 use lib.Dec.{eqb}
 use lib.ListN.{length}
 use Rattle.octets.specs.Bytes.{be}
-use Rattle.answer.specs.declared.Fault.the-variants.{Store, Capability, InUse}
+use Rattle.answer.specs.declared.Fault.the-variants.{Store, Length, Capability, InUse}
 use Rattle.elements.specs.declared.Scope.the-variants.{Guest as GuestWide}
 use Rattle.elements.specs.Table.{position}
 use Rattle.store.specs.declared.Layout.{Layout}
-use Rattle.store.specs.Layout.{guestAt}
+use Rattle.store.specs.Layout.{small, large, guestAt}
 use Rattle.store.specs.Header.{header, outside, offered, capabilitiesOf, anyLive}
-use Rattle.store.specs.Store.{fresh, putCapabilities}
+use Rattle.store.specs.Store.{wellFormed, fresh, putCapabilities}
+use Rattle.store.specs.Conversion.{converted}
 use Rattle.state.specs.State.{getState, setState}
 use Rattle.run.specs.Run.{runVcpu}
 use Rattle.guests.specs.Guests.{createGuest, createVcpu, deleteGuest}
@@ -47,6 +48,12 @@ roundedUp offset = (offset + (2 ^ 24 - 1)) / 2 ^ 24 * 2 ^ 24 % 2 ^ 64
 unfoldable pub guestClock : Layout → List ℕ → ℕ → ℕ → Outcome
 guestClock l s guest timebase =
     decide s [] (malformed l s ∷ notLive l s guest ∷ []) (accept ((timebase + roundedUp (offsetOf l s guest)) % 2 ^ 64) s)
+
+-- 02, L6: "A conversion writes a small store as a large one (values at the same guest and slot, in use or not, else zero)"; "conversion gives 1 for
+-- a source that is not a well-formed small store, then 5 for a target of another length". The store that it leaves is the target t.
+unfoldable pub convert : List ℕ → List ℕ → Outcome
+convert s t =
+    decide t [] ((not (wellFormed small s), Store) ∷ (not (eqb (length t) (large .size)), Length) ∷ []) (accept 0 (converted small large s))
 
 -- A call with its arguments; a history is a list of them.
 pub data Call : Type 0 where

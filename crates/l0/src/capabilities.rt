@@ -10,12 +10,12 @@ use octets::clear;
 use store::Layout;
 use store::any_live;
 use store::capabilities_of;
+use store::layout_of;
 use store::put_capabilities;
-use store::small_layout;
 ghost use mathlib.Core.Path.{_≡_};
 ghost use mathlib.Core.List.{[]};
 ghost use lib.ListN.{length};
-ghost use Rattle.store.specs.Layout.{Sound, small};
+ghost use Rattle.store.specs.Layout.{Sound, layoutOf};
 ghost use Rattle.admission.specs.Refusals.{Outcome};
 ghost use Rattle.l0.specs.Calls.{freshStore, getCapabilities, setCapabilities, inUse};
 
@@ -23,9 +23,9 @@ ghost use Rattle.l0.specs.Calls.{freshStore, getCapabilities, setCapabil
 const OFFERED: u64 = 0x6000_0000_0000_0000;
 
 pub fn fresh_store(store: &mut [u8]) -> Answer
-    ensures { λ r. ⌜ _≡_ {A = Outcome} (record { answer = r; store = now (store .exit); buffer = [] }) (freshStore small (now (store .entry))) ⌝ }
+    ensures { λ r. ⌜ _≡_ {A = Outcome} (record { answer = r; store = now (store .exit); buffer = [] }) (freshStore (layoutOf (now (store .entry))) (now (store .entry))) ⌝ }
 {
-    let l = small_layout();
+    let l = layout_of(store);
     if store.len() != l.size {
         return refusal(Fault::Store);
     }
@@ -33,15 +33,23 @@ pub fn fresh_store(store: &mut [u8]) -> Answer
     success(0)
 }
 
-// H_GUEST_GET_CAPABILITIES.
-pub fn get_capabilities(store: &[u8], flags: u64) -> Answer
-    ensures { λ r. ⌜ _≡_ {A = Outcome} (record { answer = r; store = now (store .entry); buffer = [] }) (getCapabilities small (now (store .entry)) flags) ⌝ }
+fn get_capabilities_with(store: &[u8], l: Layout, flags: u64) -> Answer
+    requires { ⌜ l ≡ layoutOf (now store) ⌝ }
+    ensures { λ r. ⌜ _≡_ {A = Outcome} (record { answer = r; store = now (store .entry); buffer = [] }) (getCapabilities l (now (store .entry)) flags) ⌝ }
 {
-    let admission = admit(store, small_layout(), 0, flags);
+    let admission = admit(store, l, 0, flags);
     match admission {
         Admission::Refused(fault) => refusal(fault),
         Admission::Admitted => success(OFFERED),
     }
+}
+
+// H_GUEST_GET_CAPABILITIES.
+pub fn get_capabilities(store: &[u8], flags: u64) -> Answer
+    ensures { λ r. ⌜ _≡_ {A = Outcome} (record { answer = r; store = now (store .entry); buffer = [] }) (getCapabilities (layoutOf (now (store .entry))) (now (store .entry)) flags) ⌝ }
+{
+    let l = layout_of(store);
+    get_capabilities_with(store, l, flags)
 }
 
 // A guest lives under what is agreed, and something else is asked for.
@@ -55,11 +63,10 @@ fn in_use(store: &[u8], l: Layout, bitmap: u64) -> bool
     any_live(store, l)
 }
 
-// H_GUEST_SET_CAPABILITIES.
-pub fn set_capabilities(store: &mut [u8], flags: u64, bitmap: u64) -> Answer
-    ensures { λ r. ⌜ _≡_ {A = Outcome} (record { answer = r; store = now (store .exit); buffer = [] }) (setCapabilities small (now (store .entry)) flags bitmap) ⌝ }
+fn set_capabilities_with(store: &mut [u8], l: Layout, flags: u64, bitmap: u64) -> Answer
+    requires { ⌜ l ≡ layoutOf (now store) ⌝ }
+    ensures { λ r. ⌜ _≡_ {A = Outcome} (record { answer = r; store = now (store .exit); buffer = [] }) (setCapabilities l (now (store .entry)) flags bitmap) ⌝ }
 {
-    let l = small_layout();
     match admit(store, l, 0, flags) {
         Admission::Refused(fault) => return refusal(fault),
         Admission::Admitted => {}
@@ -72,4 +79,12 @@ pub fn set_capabilities(store: &mut [u8], flags: u64, bitmap: u64) -> Answer
     }
     put_capabilities(store, l, bitmap);
     success(0)
+}
+
+// H_GUEST_SET_CAPABILITIES.
+pub fn set_capabilities(store: &mut [u8], flags: u64, bitmap: u64) -> Answer
+    ensures { λ r. ⌜ _≡_ {A = Outcome} (record { answer = r; store = now (store .exit); buffer = [] }) (setCapabilities (layoutOf (now (store .entry))) (now (store .entry)) flags bitmap) ⌝ }
+{
+    let l = layout_of(store);
+    set_capabilities_with(store, l, flags, bitmap)
 }

@@ -4,13 +4,14 @@ use answer::Fault;
 use answer::refusal;
 use answer::success;
 use octets::get64;
+use store::Layout;
 use store::guest_at;
 use store::is_live;
-use store::small_layout;
+use store::layout_of;
 use store::well_formed;
 ghost use mathlib.Core.Path.{_≡_};
 ghost use mathlib.Core.List.{[]};
-ghost use Rattle.store.specs.Layout.{small};
+ghost use Rattle.store.specs.Layout.{layoutOf};
 ghost use Rattle.admission.specs.Refusals.{Outcome};
 ghost use Rattle.l0.specs.Calls.{roundedUp, guestClock};
 
@@ -25,10 +26,10 @@ fn rounded_up(offset: u64) -> u64
     x - x % 0x100_0000
 }
 
-pub fn guest_clock(store: &[u8], guest: u64, timebase: u64) -> Answer
-    ensures { λ r. ⌜ _≡_ {A = Outcome} (record { answer = r; store = now (store .entry); buffer = [] }) (guestClock small (now (store .entry)) guest timebase) ⌝ }
+fn guest_clock_with(store: &[u8], l: Layout, guest: u64, timebase: u64) -> Answer
+    requires { ⌜ l ≡ layoutOf (now store) ⌝ }
+    ensures { λ r. ⌜ _≡_ {A = Outcome} (record { answer = r; store = now (store .entry); buffer = [] }) (guestClock l (now (store .entry)) guest timebase) ⌝ }
 {
-    let l = small_layout();
     if !well_formed(store, l) {
         return refusal(Fault::Store);
     }
@@ -38,4 +39,11 @@ pub fn guest_clock(store: &[u8], guest: u64, timebase: u64) -> Answer
     }
     let offset = get64(store, guest_at(l, g) + TB_OFFSET);
     success(std::num::wrapping_add_u64(timebase, rounded_up(offset)))
+}
+
+pub fn guest_clock(store: &[u8], guest: u64, timebase: u64) -> Answer
+    ensures { λ r. ⌜ _≡_ {A = Outcome} (record { answer = r; store = now (store .entry); buffer = [] }) (guestClock (layoutOf (now (store .entry))) (now (store .entry)) guest timebase) ⌝ }
+{
+    let l = layout_of(store);
+    guest_clock_with(store, l, guest, timebase)
 }

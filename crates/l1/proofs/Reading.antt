@@ -26,7 +26,7 @@ use Rattle.elements.specs.Later.{offerOf}
 use Rattle.elements.specs.Cells.{cellOf}
 use Rattle.rules.specs.Rules.{permits}
 use Rattle.exits.specs.Exits.{elementOf}
-use Rattle.store.specs.Layout.{small}
+use Rattle.store.specs.Layout.{layoutOf}
 use Rattle.store.proofs.Search.{both, no-bool}
 use Rattle.admission.specs.declared.Admission.{Admission}
 use Rattle.admission.specs.declared.Admission.the-variants.{Admitted, Refused}
@@ -76,22 +76,22 @@ module _ (id : ℕ) (e : isReadable Full id ≡ true) where
     value-from n l = omega (arith, read-within .inside)
 
 -- ---- an element that is not valid
-module _ (s : List ℕ) (guest vcpu id : ℕ) (vs ms v w : List ℕ) (r : Answer) (e : r ≡ gotElement s guest vcpu id v .answer) (q : w ≡ bytesAt (gotElement s guest vcpu id v .buffer) 8 (length v)) (t : Bool) (p : t ≡ accepted (told CacheRead (r .fault) (r .value))) where
+module _ (s : List ℕ) (guest vcpu id : ℕ) (vs ms v w : List ℕ) (r : Answer) (e : r ≡ gotElement (layoutOf s) s guest vcpu id v .answer) (q : w ≡ bytesAt (gotElement (layoutOf s) s guest vcpu id v .buffer) 8 (length v)) (t : Bool) (p : t ≡ accepted (told CacheRead (r .fault) (r .value))) where
   abbrev c : Cache
   c = record { values = vs; marks = ms }
 
-  fetched-as : (b : Bool) → t ≡ b → _≡_ {A = ReadOutcome} (record { answer = r; cache = cond b (keep c id w) c; value = w }) (fetched c id (length v) (gotElement s guest vcpu id v))
+  fetched-as : (b : Bool) → t ≡ b → _≡_ {A = ReadOutcome} (record { answer = r; cache = cond b (keep c id w) c; value = w }) (fetched c id (length v) (gotElement (layoutOf s) s guest vcpu id v))
   unfolding fetched
   fetched-as b h =
       ap (λ (y : Bool). record { answer = r; cache = cond y (keep c id w) c; value = w }) (sym h ∙ p)
       ∙ ap₂ (λ (x : Answer) (y : List ℕ). record { answer = x; cache = cond (accepted (told CacheRead (x .fault) (x .value))) (keep c id y) c; value = y }) e q
 
-  pub fetch-refused : not t ≡ true → _≡_ {A = ReadOutcome} (record { answer = r; cache = record { values = vs; marks = ms }; value = w }) (fetched (record { values = vs; marks = ms }) id (length v) (gotElement s guest vcpu id v))
+  pub fetch-refused : not t ≡ true → _≡_ {A = ReadOutcome} (record { answer = r; cache = record { values = vs; marks = ms }; value = w }) (fetched (record { values = vs; marks = ms }) id (length v) (gotElement (layoutOf s) s guest vcpu id v))
   fetch-refused n = fetched-as false (not-true t n)
 
 pub fetch-kept : (s : List ℕ) (guest vcpu id : ℕ) (x : Cell) (vs ms v w us ns : List ℕ) (r : Answer) (t : Bool) → _≡_ {A = Cache} (record { values = us; marks = ns }) (keptAt (record { values = vs; marks = ms }) x w) → x ≡ cellOf id → not t ≡ false → t ≡ accepted (told CacheRead (r .fault) (r .value))
-    → r ≡ gotElement s guest vcpu id v .answer → w ≡ bytesAt (gotElement s guest vcpu id v .buffer) 8 (length v)
-    → _≡_ {A = ReadOutcome} (record { answer = r; cache = record { values = us; marks = ns }; value = w }) (fetched (record { values = vs; marks = ms }) id (length v) (gotElement s guest vcpu id v))
+    → r ≡ gotElement (layoutOf s) s guest vcpu id v .answer → w ≡ bytesAt (gotElement (layoutOf s) s guest vcpu id v .buffer) 8 (length v)
+    → _≡_ {A = ReadOutcome} (record { answer = r; cache = record { values = us; marks = ns }; value = w }) (fetched (record { values = vs; marks = ms }) id (length v) (gotElement (layoutOf s) s guest vcpu id v))
 fetch-kept s guest vcpu id x vs ms v w us ns r t k c n p e q =
     ap (λ (d : Cache). record { answer = r; cache = d; value = w }) (k ∙ kept-as (record { values = vs; marks = ms }) id x w c) ∙ fetched-as s guest vcpu id vs ms v w r e q t p true (not-false t n)
 
@@ -100,14 +100,14 @@ module _ (s : List ℕ) (guest vcpu : ℕ) (vs ms : List ℕ) (id : ℕ) (x : Ce
   abbrev answered : Bool → ReadOutcome
   answered b =
       cond b (record { answer = success 0; cache = record { values = vs; marks = ms }; value = bytesAt vs (elementOf id .position) (elementOf id .size) })
-      (fetched (record { values = vs; marks = ms }) id (length v) (gotElement s guest vcpu id v))
+      (fetched (record { values = vs; marks = ms }) id (length v) (gotElement (layoutOf s) s guest vcpu id v))
 
   value-as : (b : Bool) → y ≡ b → readValue s guest vcpu (record { values = vs; marks = ms }) id v ≡ answered b
   unfolding readValue cellOf
   value-as b q = ap answered (sym (p ∙ ap (λ (z : Cell). isMarked ms (z .number)) c) ∙ q)
 
   pub value-fetched : (r : Answer) (us ns u : List ℕ) → not y ≡ true
-      → _≡_ {A = ReadOutcome} (record { answer = r; cache = record { values = us; marks = ns }; value = u }) (fetched (record { values = vs; marks = ms }) id (length v) (gotElement s guest vcpu id v))
+      → _≡_ {A = ReadOutcome} (record { answer = r; cache = record { values = us; marks = ns }; value = u }) (fetched (record { values = vs; marks = ms }) id (length v) (gotElement (layoutOf s) s guest vcpu id v))
       → _≡_ {A = ReadOutcome} (record { answer = r; cache = record { values = us; marks = ns }; value = u }) (readValue s guest vcpu (record { values = vs; marks = ms }) id v)
   value-fetched r us ns u n w = w ∙ sym (value-as false (not-true y n))
 
@@ -132,17 +132,17 @@ module _ (s : List ℕ) (guest vcpu pvr : ℕ) (vs ms : List ℕ) (id : ℕ) (v 
   judged : judgement (elementTests o before (isReadable o id) id v) ≡ a
   judged = tests-same o before (isReadable o id) id x v e (readable-named o id) ∙ sym q
 
-  read-as : readCache small s guest vcpu pvr before id v ≡ firstOf refused (elementTests o before (isReadable o id) id v) (readValue s guest vcpu before id v)
+  read-as : readCache (layoutOf s) s guest vcpu pvr before id v ≡ firstOf refused (elementTests o before (isReadable o id) id v) (readValue s guest vcpu before id v)
   unfolding readCache readValue
   read-as = ap (λ (p : Offer). firstOf refused (elementTests p before (isReadable p id) id v) (readValue s guest vcpu before id v)) (sym eo)
 
   pub read-bad : (f : Fault) → a ≡ Refused f → r ≡ refusal f
-      → _≡_ {A = ReadOutcome} (record { answer = r; cache = record { values = vs; marks = ms }; value = v }) (readCache small s guest vcpu pvr (record { values = vs; marks = ms }) id v)
+      → _≡_ {A = ReadOutcome} (record { answer = r; cache = record { values = vs; marks = ms }; value = v }) (readCache (layoutOf s) s guest vcpu pvr (record { values = vs; marks = ms }) id v)
   read-bad f h i =
       ap (λ (y : Answer). record { answer = y; cache = before; value = v }) i
       ∙ sym (read-as ∙ all-refused refused (readValue s guest vcpu before id v) (elementTests o before (isReadable o id) id v) f (judged ∙ h))
 
   pub read-good : (us ns u : List ℕ) → a ≡ Admitted
       → _≡_ {A = ReadOutcome} (record { answer = r; cache = record { values = us; marks = ns }; value = u }) (readValue s guest vcpu (record { values = vs; marks = ms }) id v)
-      → _≡_ {A = ReadOutcome} (record { answer = r; cache = record { values = us; marks = ns }; value = u }) (readCache small s guest vcpu pvr (record { values = vs; marks = ms }) id v)
+      → _≡_ {A = ReadOutcome} (record { answer = r; cache = record { values = us; marks = ns }; value = u }) (readCache (layoutOf s) s guest vcpu pvr (record { values = vs; marks = ms }) id v)
   read-good us ns u h w = w ∙ sym (read-as ∙ all-admitted refused (readValue s guest vcpu before id v) (elementTests o before (isReadable o id) id v) (judged ∙ h))

@@ -29,10 +29,10 @@ use Rattle.gsb.proofs.Messages.{length-message}
 use Rattle.gsb.proofs.Walks.{long-enough}
 use Rattle.gsb.proofs.RoundTrip.{begins-self, begins-put, begins-first}
 use Rattle.store.specs.declared.Layout.{Layout}
-use Rattle.store.specs.Layout.{small, slotBytes}
+use Rattle.store.specs.Layout.{layoutOf, slotBytes}
 use Rattle.store.specs.Search.{every}
 use Rattle.store.proofs.Search.{both, every-all, every-at}
-use Rattle.store.proofs.Small.{sound-small}
+use Rattle.store.proofs.Sizes.{layout-sound}
 use Rattle.transfer.specs.Transfer.{applied, AllReady}
 use Rattle.transfer.proofs.Moving.{length-applied}
 use Rattle.exits.specs.Exits.{known, returned, rowBytes, valued, outputOf}
@@ -185,27 +185,27 @@ module _ (s vs ms effect : List ℕ) (flags guest vcpu inputLength outputLength 
   cache = record { values = vs; marks = ms }
 
   abbrev there : RunTarget
-  there = Slot (baseOf small s false guest vcpu) (inputSize s (baseOf small s false guest vcpu))
+  there = Slot (baseOf (layoutOf s) s false guest vcpu) (inputSize s (baseOf (layoutOf s) s false guest vcpu))
 
   abbrev firsts : List (Bool × Fault)
-  firsts = runTargetTests small s flags guest vcpu (length (message (pending cache))) inputLength outputLength
+  firsts = runTargetTests (layoutOf s) s flags guest vcpu (length (message (pending cache))) inputLength outputLength
 
   abbrev contents : List (Bool × Fault)
-  contents = contentTests small s guest (message (pending cache)) effect exit
+  contents = contentTests (layoutOf s) s guest (message (pending cache)) effect exit
 
   -- the answers of `judge_cached`
-  module _ (good : goodCache Full (record { values = vs; marks = ms }) ≡ true) (l : Layout) (el : l ≡ small) (need : ℕ) (en : need ≡ rowBytes (chosen (isChanged ms) 170))
-      (a : RunTarget) (q : a ≡ runTargetOf l s flags guest vcpu need inputLength outputLength) where
+  module _ (good : goodCache Full (record { values = vs; marks = ms }) ≡ true) (need : ℕ) (en : need ≡ rowBytes (chosen (isChanged ms) 170))
+      (a : RunTarget) (q : a ≡ runTargetOf (layoutOf s) s flags guest vcpu need inputLength outputLength) where
     target-as : firstOf RunRefused firsts there ≡ a
     unfolding runTargetOf
     target-as =
-        sym (q ∙ ap₂ (λ (x : Layout) (n : ℕ). runTargetOf x s flags guest vcpu n inputLength outputLength) el (need-is Full cache good need en))
+        sym (q ∙ ap (λ (n : ℕ). runTargetOf (layoutOf s) s flags guest vcpu n inputLength outputLength) (need-is Full cache good need en))
 
     pub cached-refused : (f : Fault) → a ≡ RunRefused f → RunRefused f ≡ cachedTarget s (record { values = vs; marks = ms }) flags guest vcpu inputLength outputLength effect exit
     unfolding cachedTarget
     cached-refused f h = sym (begin-refused RunRefused there firsts contents f (was-refused RunRefused run-refused-same there run-refused-not firsts f (target-as ∙ h)))
 
-    module _ (base n : ℕ) (h : a ≡ Slot base n) (v : Admission) (w : v ≡ contentGood l s guest (message (pending (record { values = vs; marks = ms }))) effect exit) where
+    module _ (base n : ℕ) (h : a ≡ Slot base n) (v : Admission) (w : v ≡ contentGood (layoutOf s) s guest (message (pending (record { values = vs; marks = ms }))) effect exit) where
       at-slot : (judgement firsts ≡ Admitted) × (there ≡ Slot base n)
       at-slot = was-admitted RunRefused run-refused-same there run-refused-not firsts (Slot base n) slot-not (target-as ∙ h)
 
@@ -215,7 +215,7 @@ module _ (s vs ms effect : List ℕ) (flags guest vcpu inputLength outputLength 
 
       judged-content : judgement contents ≡ v
       unfolding contentGood
-      judged-content = sym (w ∙ ap (λ (x : Layout). judgement (contentTests x s guest (message (pending cache)) effect exit)) el)
+      judged-content = sym w
 
       pub cached-content : (f : Fault) → v ≡ Refused f → RunRefused f ≡ cachedTarget s (record { values = vs; marks = ms }) flags guest vcpu inputLength outputLength effect exit
       cached-content f e = sym (past ∙ all-refused RunRefused there contents f (judged-content ∙ e))
@@ -229,18 +229,18 @@ module _ (s vs ms input output effect : List ℕ) (flags guest vcpu exit : ℕ) 
   own = record { values = vs; marks = ms }
 
   abbrev tests : List (Bool × Fault)
-  tests = cachedTests small s own flags guest vcpu (length input) (length output) effect exit
+  tests = cachedTests (layoutOf s) s own flags guest vcpu (length input) (length output) effect exit
 
   abbrev laid : List ℕ
   laid = put input 0 (message (pending own))
 
   abbrev base : ℕ
-  base = baseOf small s false guest vcpu
+  base = baseOf (layoutOf s) s false guest vcpu
 
   abbrev size : ℕ
-  size = inputSize s (baseOf small s false guest vcpu)
+  size = inputSize s (baseOf (layoutOf s) s false guest vcpu)
 
-  module _ (good : goodCache Full (record { values = vs; marks = ms }) ≡ true) (h : judgement (cachedTests small s (record { values = vs; marks = ms }) flags guest vcpu (length input) (length output) effect exit) ≡ Admitted) where
+  module _ (good : goodCache Full (record { values = vs; marks = ms }) ≡ true) (h : judgement (cachedTests (layoutOf s) s (record { values = vs; marks = ms }) flags guest vcpu (length input) (length output) effect exit) ≡ Admitted) where
     passed : Passed tests
     passed = judged-passed tests h
 
@@ -251,43 +251,43 @@ module _ (s vs ms input output effect : List ℕ) (flags guest vcpu exit : ℕ) 
     room = ltb-false _ _ (lents .1)
 
     -- the same tests of the run itself, which needs nothing
-    earlier : (n : ℕ) → n ≡ length input → Passed (runTargetTests small s flags guest vcpu 0 n (length output))
+    earlier : (n : ℕ) → n ≡ length input → Passed (runTargetTests (layoutOf s) s flags guest vcpu 0 n (length output))
     earlier n e =
         let p = passed in
         let z : (ltb n size || ltb size 0) ≡ false = ap₂ (λ (x y : Bool). x || y) (ap (λ (m : ℕ). ltb m size) e ∙ lents .0) (le-ltb size 0 (omega arith)) in
         (p .0, (p .1 .0, (p .1 .1 .0, (p .1 .1 .1 .0, (p .1 .1 .1 .1 .0, (p .1 .1 .1 .1 .1 .0, (p .1 .1 .1 .1 .1 .1 .0, (z, (p .1 .1 .1 .1 .1 .1 .1 .1 .0, tt)))))))))
 
-    ends : Passed (exitTests (contextOf small s guest InEffect) effect exit)
+    ends : Passed (exitTests (contextOf (layoutOf s) s guest InEffect) effect exit)
     ends = let p = passed .1 .1 .1 .1 .1 .1 .1 .1 .1 .1 in (p .0, (p .1 .0, (p .1 .1 .0, tt)))
 
-    found : RunFound small s guest base size (length input) (length output)
-    found = run-found small sound-small s flags guest vcpu 0 (length input) (length output) (earlier (length input) refl)
+    found : RunFound (layoutOf s) s guest base size (length input) (length output)
+    found = run-found (layoutOf s) (layout-sound s) s flags guest vcpu 0 (length input) (length output) (earlier (length input) refl)
 
     -- the cache is good by the guest's own list
-    own-good : goodCache (contextOf small s guest RunInput .offer) own ≡ true
-    own-good = done-good (contextOf small s guest RunInput .offer) own good (contextOf small s guest RunInput) refl refl (pending-fit Full own good) (stopped-not _ (passed .1 .1 .1 .1 .1 .1 .1 .1 .1 .0))
+    own-good : goodCache (contextOf (layoutOf s) s guest RunInput .offer) own ≡ true
+    own-good = done-good (contextOf (layoutOf s) s guest RunInput .offer) own good (contextOf (layoutOf s) s guest RunInput) refl refl (pending-fit Full own good) (stopped-not _ (passed .1 .1 .1 .1 .1 .1 .1 .1 .1 .0))
 
     begun : Begins (inputOf s base laid) (message (pending own))
     begun =
         begins-first laid (message (pending own)) size (begins-put input (message (pending own)) (omega (arith, room, found .lent))) room
         (omega (arith, length-put input 0 (message (pending own)), found .lent))
 
-    walked : firstBad (contextOf small s guest RunInput) (inputOf s base laid) ≡ Done
-    walked = sent-good (contextOf small s guest RunInput .offer) own own-good (contextOf small s guest RunInput) refl refl (inputOf s base laid) begun
+    walked : firstBad (contextOf (layoutOf s) s guest RunInput) (inputOf s base laid) ≡ Done
+    walked = sent-good (contextOf (layoutOf s) s guest RunInput .offer) own own-good (contextOf (layoutOf s) s guest RunInput) refl refl (inputOf s base laid) begun
 
-    pub run-accepted : runVcpu small s flags guest vcpu (put input 0 (message (pending (record { values = vs; marks = ms })))) output effect exit
-        ≡ ran (baseOf small s false guest vcpu) s (inputOf s (baseOf small s false guest vcpu) (put input 0 (message (pending (record { values = vs; marks = ms }))))) output effect exit
+    pub run-accepted : runVcpu (layoutOf s) s flags guest vcpu (put input 0 (message (pending (record { values = vs; marks = ms })))) output effect exit
+        ≡ ran (baseOf (layoutOf s) s false guest vcpu) s (inputOf s (baseOf (layoutOf s) s false guest vcpu) (put input 0 (message (pending (record { values = vs; marks = ms }))))) output effect exit
     unfolding runVcpu decide
     run-accepted =
         let done = ran base s (inputOf s base laid) output effect exit in
-        let ks = exitTests (contextOf small s guest InEffect) effect exit in
-        begin-admitted (refuse s output) done (runTargetTests small s flags guest vcpu 0 (length laid) (length output)) (contentTests small s guest (inputOf s base laid) effect exit)
-        (passed-judged (runTargetTests small s flags guest vcpu 0 (length laid) (length output)) (earlier (length laid) (length-put input 0 (message (pending own)))))
+        let ks = exitTests (contextOf (layoutOf s) s guest InEffect) effect exit in
+        begin-admitted (refuse s output) done (runTargetTests (layoutOf s) s flags guest vcpu 0 (length laid) (length output)) (contentTests (layoutOf s) s guest (inputOf s base laid) effect exit)
+        (passed-judged (runTargetTests (layoutOf s) s flags guest vcpu 0 (length laid) (length output)) (earlier (length laid) (length-put input 0 (message (pending own)))))
         ∙ ap (λ (w : Walked). cond (isStopped w) (refuse s output (faultOf w)) (firstOf (refuse s output) ks done)) walked
         ∙ all-admitted (refuse s output) done ks (passed-judged ks ends)
 
     effect-ready : AllReady base effect (length s)
-    effect-ready = ready-as (contextOf small s guest InEffect) base (length s) effect (stopped-not _ (ends .1 .1 .0)) (omega (arith, found .room, found .long)) (long-enough effect (badLength effect) refl (ends .1 .0))
+    effect-ready = ready-as (contextOf (layoutOf s) s guest InEffect) base (length s) effect (stopped-not _ (ends .1 .1 .0)) (omega (arith, found .room, found .long)) (long-enough effect (badLength effect) refl (ends .1 .0))
 
     sendable : Sendable s base size own input output effect exit
     sendable =
@@ -310,17 +310,17 @@ module _ (s vs ms input output effect : List ℕ) (flags guest vcpu pvr exit : �
   refusedRun f = record { answer = refusal f; store = s; cache = before; input = input; output = output }
 
   abbrev goneOn : RunOutcome
-  goneOn = ranWith before (put input 0 (message (pending before))) (runVcpu small s flags guest vcpu (put input 0 (message (pending before))) output effect exit)
+  goneOn = ranWith before (put input 0 (message (pending before))) (runVcpu (layoutOf s) s flags guest vcpu (put input 0 (message (pending before))) output effect exit)
 
   abbrev judgements : List (Bool × Fault)
-  judgements = cachedTests small s before flags guest vcpu (length input) (length output) effect exit
+  judgements = cachedTests (layoutOf s) s before flags guest vcpu (length input) (length output) effect exit
 
-  run-as : (b : Bool) → t ≡ b → runCache small s before flags guest vcpu pvr input output effect exit ≡ cond (not b) (refusedRun CacheBad) (firstOf refusedRun judgements goneOn)
+  run-as : (b : Bool) → t ≡ b → runCache (layoutOf s) s before flags guest vcpu pvr input output effect exit ≡ cond (not b) (refusedRun CacheBad) (firstOf refusedRun judgements goneOn)
   unfolding runCache
   run-as b e = ap (λ (x : Bool). cond (not x) (refusedRun CacheBad) (firstOf refusedRun judgements goneOn)) (ap (λ (x : Offer). goodCache x before) (sym eo) ∙ sym g ∙ e)
 
   pub run-malformed : not t ≡ true → (r : Answer) → r ≡ refusal CacheBad
-      → _≡_ {A = RunOutcome} (record { answer = r; store = s; cache = record { values = vs; marks = ms }; input = input; output = output }) (runCache small s (record { values = vs; marks = ms }) flags guest vcpu pvr input output effect exit)
+      → _≡_ {A = RunOutcome} (record { answer = r; store = s; cache = record { values = vs; marks = ms }; input = input; output = output }) (runCache (layoutOf s) s (record { values = vs; marks = ms }) flags guest vcpu pvr input output effect exit)
   run-malformed n r i = ap (λ (x : Answer). record { answer = x; store = s; cache = before; input = input; output = output }) i ∙ sym (run-as false (not-true t n))
 
   module _ (n : not t ≡ false) where
@@ -329,10 +329,10 @@ module _ (s vs ms input output effect : List ℕ) (flags guest vcpu pvr exit : �
 
     module _ (a : RunTarget) (q : a ≡ cachedTarget s (record { values = vs; marks = ms }) flags guest vcpu (length input) (length output) effect exit) where
       abbrev slot : RunTarget
-      slot = Slot (baseOf small s false guest vcpu) (inputSize s (baseOf small s false guest vcpu))
+      slot = Slot (baseOf (layoutOf s) s false guest vcpu) (inputSize s (baseOf (layoutOf s) s false guest vcpu))
 
       pub run-refused : (f : Fault) → a ≡ RunRefused f → (r : Answer) → r ≡ refusal f
-          → _≡_ {A = RunOutcome} (record { answer = r; store = s; cache = record { values = vs; marks = ms }; input = input; output = output }) (runCache small s (record { values = vs; marks = ms }) flags guest vcpu pvr input output effect exit)
+          → _≡_ {A = RunOutcome} (record { answer = r; store = s; cache = record { values = vs; marks = ms }; input = input; output = output }) (runCache (layoutOf s) s (record { values = vs; marks = ms }) flags guest vcpu pvr input output effect exit)
       unfolding cachedTarget
       run-refused f h r i =
           ap (λ (x : Answer). record { answer = x; store = s; cache = before; input = input; output = output }) i
@@ -347,9 +347,9 @@ module _ (s vs ms input output effect : List ℕ) (flags guest vcpu pvr exit : �
         run-sendable =
             let e = slot-same (at .1) in
             subst (λ (x : ℕ). Sendable s x size before input output effect exit) (e .0)
-            (subst (λ (y : ℕ). Sendable s (baseOf small s false guest vcpu) y before input output effect exit) (e .1) (sendable s vs ms input output effect flags guest vcpu exit run-full (at .0)))
+            (subst (λ (y : ℕ). Sendable s (baseOf (layoutOf s) s false guest vcpu) y before input output effect exit) (e .1) (sendable s vs ms input output effect flags guest vcpu exit run-full (at .0)))
 
-        pub run-sent : (x : RunOutcome) → x ≡ sent s base size (record { values = vs; marks = ms }) input output effect exit → x ≡ runCache small s (record { values = vs; marks = ms }) flags guest vcpu pvr input output effect exit
+        pub run-sent : (x : RunOutcome) → x ≡ sent s base size (record { values = vs; marks = ms }) input output effect exit → x ≡ runCache (layoutOf s) s (record { values = vs; marks = ms }) flags guest vcpu pvr input output effect exit
         unfolding sent
         run-sent x i =
             let e = slot-same (at .1) in

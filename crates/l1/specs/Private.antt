@@ -21,7 +21,7 @@ use Rattle.elements.specs.Later.{offers}
 use Rattle.elements.specs.Cells.{cellOf, noCell}
 use Rattle.gsb.specs.Walk.{countOf, idAt, sizeAt, nextAt, offsetAt}
 use Rattle.gsb.specs.Message.{message}
-use Rattle.store.specs.Layout.{small, slotBytes}
+use Rattle.store.specs.Layout.{layoutOf, slotBytes}
 use Rattle.store.specs.Search.{first, tally}
 use Rattle.transfer.specs.Transfer.{putAs, AllReady}
 use Rattle.exits.specs.Exits.{known, elementOf}
@@ -75,7 +75,7 @@ unfoldable pub readValue : List ℕ → ℕ → ℕ → Cache → ℕ → List �
 readValue s guest vcpu c id v =
     cond (valid c (numberOf id))
     (record { answer = success 0; cache = c; value = bytesAt (c .values) (elementOf id .position) (elementOf id .size) })
-    (fetched c id (length v) (gotElement s guest vcpu id v))
+    (fetched c id (length v) (gotElement (layoutOf s) s guest vcpu id v))
 
 -- ---- the walk from mark to mark
 -- the changed marks, of the words alone
@@ -117,8 +117,8 @@ lackedFrom o (id ∷ ids) i at = cond (offers o id) (lackedFrom o ids (i + 1) (a
 -- all its tests behind 15, and the slot
 unfoldable pub cachedTarget : List ℕ → Cache → ℕ → ℕ → ℕ → ℕ → ℕ → List ℕ → ℕ → RunTarget
 cachedTarget s c flags guest vcpu inputLength outputLength effect exit =
-    firstOf Refused (cachedTests small s c flags guest vcpu inputLength outputLength effect exit)
-    (Slot (baseOf small s false guest vcpu) (inputSize s (baseOf small s false guest vcpu)))
+    firstOf Refused (cachedTests (layoutOf s) s c flags guest vcpu inputLength outputLength effect exit)
+    (Slot (baseOf (layoutOf s) s false guest vcpu) (inputSize s (baseOf (layoutOf s) s false guest vcpu)))
 
 -- what they say of it: the vCPU's values start at base, and `size` bytes of the input are registered
 pub record Sendable (s : List ℕ) (base size : ℕ) (c : Cache) (input output effect : List ℕ) (exit : ℕ) : Type 0 where

@@ -17,7 +17,7 @@ ghost use mathlib.Core.Path.{_≡_};
 ghost use mathlib.Core.Bool.{true};
 ghost use lib.ListN.{length};
 ghost use Rattle.answer.specs.Answer.{told, accepted};
-ghost use Rattle.store.specs.Layout.{small};
+ghost use Rattle.store.specs.Layout.{layoutOf};
 ghost use Rattle.elements.specs.declared.Offer.the-variants.{Full};
 ghost use Rattle.elements.specs.Cells.{cellOf};
 ghost use Rattle.state.specs.State.{gotElement};
@@ -43,7 +43,7 @@ fn fetch(
     value: &mut [u8],
 ) -> Answer
     requires { ⌜ (isReadable Full id ≡ true) × (length (now values) ≡ 1820) × (length (now marks) ≡ 6) × (length (now value) ≡ x .size) × (x ≡ cellOf id) ⌝ }
-    ensures { λ r. ⌜ _≡_ {A = ReadOutcome} (record { answer = r; cache = record { values = now (values .exit); marks = now (marks .exit) }; value = now (value .exit) }) (fetched (record { values = now (values .entry); marks = now (marks .entry) }) id (length (now (value .entry))) (gotElement (now (store .entry)) guest vcpu id (now (value .entry)))) ⌝ }
+    ensures { λ r. ⌜ _≡_ {A = ReadOutcome} (record { answer = r; cache = record { values = now (values .exit); marks = now (marks .exit) }; value = now (value .exit) }) (fetched (record { values = now (values .entry); marks = now (marks .entry) }) id (length (now (value .entry))) (gotElement (layoutOf (now (store .entry))) (now (store .entry)) guest vcpu id (now (value .entry)))) ⌝ }
 {
     let answer = get_element(store, guest, vcpu, id, value);
     if !is_accepted(Call::CacheRead, answer) {
@@ -84,7 +84,7 @@ pub fn read(
     id: u16,
     value: &mut [u8],
 ) -> Answer
-    ensures { λ r. ⌜ _≡_ {A = ReadOutcome} (record { answer = r; cache = record { values = now (values .exit); marks = now (marks .exit) }; value = now (value .exit) }) (readCache small (now (store .entry)) guest vcpu pvr (record { values = now (values .entry); marks = now (marks .entry) }) id (now (value .entry))) ⌝ }
+    ensures { λ r. ⌜ _≡_ {A = ReadOutcome} (record { answer = r; cache = record { values = now (values .exit); marks = now (marks .exit) }; value = now (value .exit) }) (readCache (layoutOf (now (store .entry))) (now (store .entry)) guest vcpu pvr (record { values = now (values .entry); marks = now (marks .entry) }) id (now (value .entry))) ⌝ }
 {
     let offer = offer_of(pvr);
     let x = readable_cell(offer, id);

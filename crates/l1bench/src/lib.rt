@@ -5,7 +5,7 @@ use answer::Registers;
 use answer::registers_of;
 ghost use mathlib.Core.Path.{_≡_};
 ghost use Rattle.answer.specs.declared.Call.{Call};
-ghost use Rattle.store.specs.Layout.{small};
+ghost use Rattle.store.specs.Layout.{layoutOf};
 ghost use Rattle.l1.specs.Cache.{writeCache, readCache, runCache};
 ghost use Rattle.l1bench.specs.Entries.{Written, writes, Read, reads, Ran, runs};
 
@@ -33,7 +33,7 @@ pub extern "C" fn adk_cache_read(
     id: u16,
     value: &mut [u8],
 ) -> Registers
-    ensures { λ r. ⌜ _≡_ {A = Read} (record { registers = r; cache = record { values = now (values .exit); marks = now (marks .exit) }; value = now (value .exit) }) (reads (readCache small (now (store .entry)) guest vcpu pvr (record { values = now (values .entry); marks = now (marks .entry) }) id (now (value .entry)))) ⌝ }
+    ensures { λ r. ⌜ _≡_ {A = Read} (record { registers = r; cache = record { values = now (values .exit); marks = now (marks .exit) }; value = now (value .exit) }) (reads (readCache (layoutOf (now (store .entry))) (now (store .entry)) guest vcpu pvr (record { values = now (values .entry); marks = now (marks .entry) }) id (now (value .entry)))) ⌝ }
 {
     registers_of(
         Call::CacheRead,
@@ -55,7 +55,7 @@ pub extern "C" fn adk_cache_run(
     effect: &[u8],
     exit_reason: u64,
 ) -> Registers
-    ensures { λ r. ⌜ _≡_ {A = Ran} (record { registers = r; store = now (store .exit); cache = record { values = now (values .exit); marks = now (marks .exit) }; input = now (input .exit); output = now (output .exit) }) (runs (runCache small (now (store .entry)) (record { values = now (values .entry); marks = now (marks .entry) }) flags guest vcpu pvr (now (input .entry)) (now (output .entry)) (now (effect .entry)) «exit_reason»)) ⌝ }
+    ensures { λ r. ⌜ _≡_ {A = Ran} (record { registers = r; store = now (store .exit); cache = record { values = now (values .exit); marks = now (marks .exit) }; input = now (input .exit); output = now (output .exit) }) (runs (runCache (layoutOf (now (store .entry))) (now (store .entry)) (record { values = now (values .entry); marks = now (marks .entry) }) flags guest vcpu pvr (now (input .entry)) (now (output .entry)) (now (effect .entry)) «exit_reason»)) ⌝ }
 {
     registers_of(
         Call::CacheRun,

@@ -3,7 +3,7 @@ use mathlib.Core.Path.{_≡_, refl, sym, ap, ap₂, _∙_}
 use mathlib.Core.Logic.{_≢_}
 use Prim.Native.Nat.{ℕ, zero, suc, _+_, _-_, _*_, _/_, _%_, _^_, _≤_, _<_}
 use native.Mathlib.Omega.{arith}
-use native.Mathlib.Nat.{mod-lt, add-mul, mul-assoc, pow-suc, zero-add}
+use native.Mathlib.Nat.{mod-lt, mod-eq-of-lt, div-eq-of-lt, add-mul, mul-assoc, pow-suc, zero-add}
 use native.Mathlib.Numerals.{add-one, one-add}
 use native.Mathlib.Decide.{decLt, ℕ-discrete}
 use mathlib.Core.List.{List, [], _∷_}
@@ -11,9 +11,9 @@ use lib.Dec.{lit<, lit≤}
 use lib.ListN.{length, getD, set, length-set}
 use lib.Seq.{getD-set-same, getD-set-other, set-getD, set-set, set-out}
 use lib.Pow.{pow-pos, pow-add, shr-shr, mod-pow-add, mod-mod-pow, field, high, low, split}
-use Rattle.octets.specs.Bytes.{bytesAt, put, be, digits, Clear, left, right}
+use Rattle.octets.specs.Bytes.{bytesAt, put, be, digits, zeros, Clear, left, right}
 use Rattle.octets.specs.Bits.{bit, bits, ins, setBit, putBits}
-use Rattle.octets.proofs.Bytes.{length-put, put-nil, put-one, put-append, put-inside, getD-bytesAt, getD-put-other}
+use Rattle.octets.proofs.Bytes.{length-put, put-nil, put-one, put-append, put-inside, getD-bytesAt, getD-put-other, getD-zeros}
 use Rattle.octets.proofs.Numbers.{length-digits, be-ext}
 
 -- ---- reading
@@ -25,6 +25,19 @@ pub bits-ext : (s t : List ℕ) (a n : ℕ) → ((k : ℕ) → k < n → bit s (
 unfolding bits
 bits-ext s t a zero h = refl
 bits-ext s t a (suc n) h = ap₂ (λ (x y : ℕ). x * 2 + y) (bits-ext s t a n (λ k l. h k (omega arith))) (h n (omega arith))
+
+pub bits-none : (s : List ℕ) (a n : ℕ) → ((k : ℕ) → k < n → bit s (a + k) ≡ 0) → bits s a n ≡ 0
+unfolding bits
+bits-none s a zero h = refl
+bits-none s a (suc n) h =
+    let x : bits s a n ≡ 0 = bits-none s a n (λ k l. h k (omega arith)) in
+    let y : bit s (a + n) ≡ 0 = h n (omega arith) in
+    omega arith
+
+pub bit-zeros : (n j : ℕ) → bit (zeros n) j ≡ 0
+unfolding bit
+bit-zeros n j =
+    ap (λ (x : ℕ). x / 2 ^ (7 - j % 8) % 2) (getD-zeros n (j / 8)) ∙ ap (λ (x : ℕ). x % 2) (div-eq-of-lt (pow-pos (7 - j % 8)))
 
 pub bits-lt : (s : List ℕ) (a n : ℕ) → bits s a n < 2 ^ n
 unfolding bits
@@ -63,6 +76,16 @@ bits-add s a n (suc m) =
     let g : bits s a n * 2 ^ suc m ≡ bits s a n * 2 ^ m * 2 = ap (λ (z : ℕ). bits s a n * z) (pow-suc 2 m) ∙ sym (mul-assoc (bits s a n) (2 ^ m) 2) in
     ap (bits s a) f ∙ ap₂ (λ (x y : ℕ). x * 2 + y) ih (ap (bit s) e) ∙ omega (arith, g)
 
+-- a field within a field: r bits before it, w in it, t behind it
+pub bits-within : (s : List ℕ) (a r w t : ℕ) → bits s a (r + (w + t)) / 2 ^ t % 2 ^ w ≡ bits s (a + r) w
+bits-within s a r w t =
+    let e : r + (w + t) ≡ r + w + t = omega arith in
+    ap (λ (n : ℕ). bits s a n / 2 ^ t % 2 ^ w) e
+    ∙ ap (λ (x : ℕ). x / 2 ^ t % 2 ^ w) (bits-add s a (r + w) t)
+    ∙ ap (λ (x : ℕ). x % 2 ^ w) (high (bits s a (r + w)) t (bits-lt s (a + (r + w)) t))
+    ∙ ap (λ (x : ℕ). x % 2 ^ w) (bits-add s a r w)
+    ∙ low (bits s a r) w (bits-lt s (a + r) w)
+
 -- ---- a number with other digits
 ins-shape : (x k n v : ℕ) → ins x k n v ≡ (x / 2 ^ (k + n) * 2 ^ n + v % 2 ^ n) * 2 ^ k + x % 2 ^ k
 unfolding ins
@@ -82,6 +105,21 @@ ins-mid x k n v = ap (λ (z : ℕ). z % 2 ^ n) (ins-shr x k n v) ∙ low (x / 2 
 
 pub ins-high : (x k n v : ℕ) → ins x k n v / 2 ^ (k + n) ≡ x / 2 ^ (k + n)
 ins-high x k n v = sym (shr-shr (ins x k n v) k n) ∙ ap (λ (z : ℕ). z / 2 ^ n) (ins-shr x k n v) ∙ high (x / 2 ^ (k + n)) n (mod-lt v (pow-pos n))
+
+-- the digits that it has
+ins-same : (x k n v : ℕ) → v % 2 ^ n ≡ x / 2 ^ k % 2 ^ n → ins x k n v ≡ x
+ins-same x k n v e =
+    let a : x / 2 ^ (k + n) * 2 ^ n + v % 2 ^ n ≡ x / 2 ^ k = ap₂ (λ (y z : ℕ). y * 2 ^ n + z) (sym (shr-shr x k n)) e ∙ split (x / 2 ^ k) n in
+    ins-shape x k n v ∙ ap (λ (z : ℕ). z * 2 ^ k + x % 2 ^ k) a ∙ split x k
+
+pub ins-lt : (x k n v m : ℕ) → x < 2 ^ m → k + n ≤ m → ins x k n v < 2 ^ m
+ins-lt x k n v m h l =
+    let y = ins x k n v in
+    let e : k + n + (m - (k + n)) ≡ m = omega arith in
+    let above : (z : ℕ) → z / 2 ^ (k + n) / 2 ^ (m - (k + n)) ≡ z / 2 ^ m = λ z. shr-shr z (k + n) (m - (k + n)) ∙ ap (λ (i : ℕ). z / 2 ^ i) e in
+    let none : ins x k n v / 2 ^ m ≡ 0 = sym (above y) ∙ ap (λ (z : ℕ). z / 2 ^ (m - (k + n))) (ins-high x k n v) ∙ above x ∙ div-eq-of-lt h in
+    let same : 0 * 2 ^ m + ins x k n v % 2 ^ m ≡ ins x k n v = ap (λ (z : ℕ). z * 2 ^ m + y % 2 ^ m) (sym none) ∙ split y m in
+    omega (arith, mod-lt y (pow-pos m))
 
 -- a digit below, a digit above
 digit-below : (y z k j : ℕ) → j < k → y % 2 ^ k ≡ z % 2 ^ k → y / 2 ^ j % 2 ≡ z / 2 ^ j % 2
@@ -171,6 +209,50 @@ put-add s a n (suc m) v =
     ap (λ (z : ℕ). putBits s a z v) f
     ∙ ap₂ (λ (l : List ℕ) (z : ℕ). setBit l z v) (put-add s a n m (v / 2)) e
     ∙ ap (λ (z : ℕ). setBit (putBits (putBits s a n z) (a + n) m (v / 2)) (a + n + m) v) g
+
+-- only the number's own digits count
+put-digits : (s : List ℕ) (a n v w : ℕ) → v % 2 ^ n ≡ w % 2 ^ n → putBits s a n v ≡ putBits s a n w
+unfolding putBits setBit ins
+put-digits s a zero v w e = refl
+put-digits s a (suc n) v w e =
+    let q : (v / 2 % 2 ^ n) * 2 + v % 2 ≡ (w / 2 % 2 ^ n) * 2 + w % 2 = sym (digits-suc v n) ∙ e ∙ digits-suc w n in
+    let d : v % 2 ≡ w % 2 = omega arith in
+    let m : v / 2 % 2 ^ n ≡ w / 2 % 2 ^ n = omega arith in
+    rw (put-digits s a n (v / 2) (w / 2) m, d)
+
+-- a field written as it is
+put-same-bits : (s : List ℕ) (a n v : ℕ) → v % 2 ^ n ≡ bits s a n → putBits s a n v ≡ s
+unfolding putBits bits setBit bit
+put-same-bits s a zero v e = refl
+put-same-bits s a (suc n) v e =
+    let x = getD s ((a + n) / 8) 0 in
+    let k = 7 - (a + n) % 8 in
+    let q : (v / 2 % 2 ^ n) * 2 + v % 2 ≡ bits s a n * 2 + bit s (a + n) = sym (digits-suc v n) ∙ e in
+    let d : v % 2 ≡ bit s (a + n) = omega (arith, bit-lt s (a + n)) in
+    let m : v / 2 % 2 ^ n ≡ bits s a n = omega (arith, bit-lt s (a + n)) in
+    ap (λ (t : List ℕ). set t ((a + n) / 8) (ins (getD t ((a + n) / 8) 0) k 1 v)) (put-same-bits s a n (v / 2) m)
+    ∙ ap (set s ((a + n) / 8)) (ins-same x k 1 v d) ∙ set-getD s ((a + n) / 8) 0
+
+-- a field within a field: what is beside it is written as it is
+pub put-within : (s : List ℕ) (a r w t v : ℕ) → putBits s a (r + (w + t)) (ins (bits s a (r + (w + t))) t w v) ≡ putBits s (a + r) w v
+put-within s a r w t v =
+    let x = bits s a (r + (w + t)) in
+    let y = ins x t w v in
+    let e : w + t ≡ t + w = omega arith in
+    let f : r + (w + t) ≡ r + w + t = omega arith in
+    let g : a + (r + w) ≡ a + r + w = omega arith in
+    let before : y / 2 ^ (w + t) ≡ bits s a r =
+    ap (λ (n : ℕ). y / 2 ^ n) e ∙ ins-high x t w v ∙ ap (λ (n : ℕ). x / 2 ^ n) (sym e)
+    ∙ ap (λ (z : ℕ). z / 2 ^ (w + t)) (bits-add s a r (w + t)) ∙ high (bits s a r) (w + t) (bits-lt s (a + r) (w + t)) in
+    let behind : y % 2 ^ t ≡ bits s (a + r + w) t =
+    ins-low x t w v ∙ ap (λ (n : ℕ). bits s a n % 2 ^ t) f ∙ ap (λ (z : ℕ). z % 2 ^ t) (bits-add s a (r + w) t)
+    ∙ low (bits s a (r + w)) t (bits-lt s (a + (r + w)) t) ∙ ap (λ (n : ℕ). bits s n t) g in
+    let kept : bits s (a + r + w) t ≡ bits (putBits s (a + r) w v) (a + r + w) t = sym (bits-put-other s (a + r) w v (a + r + w) t (left (omega arith))) in
+    put-add s a r (w + t) y
+    ∙ ap (λ (z : List ℕ). putBits z (a + r) (w + t) y) (put-same-bits s a r (y / 2 ^ (w + t)) (ap (λ (z : ℕ). z % 2 ^ r) before ∙ mod-eq-of-lt (bits-lt s a r)))
+    ∙ put-add s (a + r) w t y
+    ∙ ap (λ (z : List ℕ). putBits z (a + r + w) t y) (put-digits s (a + r) w (y / 2 ^ t) v (ins-mid x t w v))
+    ∙ put-same-bits (putBits s (a + r) w v) (a + r + w) t y (behind ∙ kept)
 
 -- within a byte
 ins-none : (x k v : ℕ) → ins x k 0 v ≡ x

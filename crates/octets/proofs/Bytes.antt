@@ -166,6 +166,10 @@ part-set s i a n j m (right h) =
     ∙ ap (λ (l : List ℕ). take m l) (drop-set-add j s (i - j) a)
     ∙ take-set-le m (drop j s) (i - j) a (omega arith)
 
+-- a part of what was written
+pub read-part : (s : List ℕ) (i : ℕ) (v : List ℕ) (k n : ℕ) → i + length v ≤ length s → k + n ≤ length v → bytesAt (put s i v) (i + k) n ≡ bytesAt v k n
+read-part s i v k n h q = sym (part-of-part (put s i v) i (length v) k n q) ∙ ap (λ (x : List ℕ). bytesAt x k n) (read-back s i v h)
+
 pub read-other : (s : List ℕ) (i : ℕ) (v : List ℕ) (j n : ℕ) → Clear i (length v) j n → bytesAt (put s i v) j n ≡ bytesAt s j n
 unfolding put bytesAt
 read-other s i [] j n h = refl
@@ -265,6 +269,19 @@ module _ (d : List ℕ) (at : ℕ) where
 pub length-zeros : (n : ℕ) → length (zeros n) ≡ n
 unfolding zeros
 length-zeros n = length-replicate n 0
+
+-- past the end too, where nothing reads as 0
+pub getD-zeros : (n i : ℕ) → getD (zeros n) i 0 ≡ 0
+unfolding zeros
+getD-zeros zero i = refl
+getD-zeros (suc n) zero = refl
+getD-zeros (suc n) (suc i) = getD-zeros n i
+
+pub zeros-part : (m i n : ℕ) → i + n ≤ m → bytesAt (zeros m) i n ≡ zeros n
+zeros-part m i n h =
+    let l : length (bytesAt (zeros m) i n) ≡ n = length-bytesAt (zeros m) i n (omega (arith, length-zeros m)) in
+    ext-getD 0 (bytesAt (zeros m) i n) (zeros n) (l ∙ sym (length-zeros n))
+    (λ k q. let r : k < n = omega (arith, l) in getD-bytesAt (zeros m) i n k r ∙ getD-zeros m (i + k) ∙ sym (getD-zeros n k))
 
 pub put-all : (s v : List ℕ) → length v ≡ length s → put s 0 v ≡ v
 put-all s v e =

@@ -11,8 +11,8 @@ use mir.Val.{Fits}
 use lib.Arith as A
 use lib.ListN.{length, getD, set, length-append, List·getD-append}
 use lib.Seq.{getD-at}
-use Rattle.octets.specs.Bytes.{bytesAt, put, be, digits, Clear}
-use Rattle.octets.proofs.Bytes.{clear-part, part-none, part-one, part-append, getD-bytesAt, getD-put-other, getD-put-same, put-one, put-append, copy-part}
+use Rattle.octets.specs.Bytes.{bytesAt, put, be, digits, zeros, Clear}
+use Rattle.octets.proofs.Bytes.{clear-part, part-none, part-one, part-append, getD-bytesAt, getD-zeros, getD-put-other, getD-put-same, put-one, put-append, copy-part}
 
 pow-pos : (n : ℕ) → 0 < 256 ^ n
 pow-pos n = one-le-pow n 256 (omega arith)
@@ -21,6 +21,10 @@ mod-suc : (n v : ℕ) → v % 256 ^ suc n ≡ v / 256 % 256 ^ n * 256 + v % 256
 mod-suc n v = ap (λ (x : ℕ). v % x) (pow-suc 256 n) ∙ A.mod-mul v (pow-pos n) (omega arith)
 
 -- ---- a number read
+pub be-zeros : (n i m : ℕ) → be (zeros n) i m ≡ 0
+unfolding be
+be-zeros n i zero = refl
+be-zeros n i (suc m) = ap₂ (λ (x y : ℕ). x * 256 + y) (be-zeros n i m) (getD-zeros n (i + m))
 
 -- the same bytes, wherever they lie, make the same number
 pub be-agree : (s : List ℕ) (i : ℕ) (t : List ℕ) (j n : ℕ) → ((k : ℕ) → k < n → getD s (i + k) 0 ≡ getD t (j + k) 0)

@@ -6,11 +6,13 @@ mod writing;
 
 pub use copying::clear;
 pub use copying::copy;
+pub use reading::get_bits;
 pub use reading::get_turned;
 pub use reading::get16;
 pub use reading::get32;
 pub use reading::get64;
 pub use reading::pair;
+pub use writing::put_bits;
 pub use writing::put16;
 pub use writing::put32;
 pub use writing::put64;

@@ -1,12 +1,13 @@
-// Big-endian numbers read from a lent slice.
+// Big-endian numbers and fields of bits read from a lent slice.
 use super::swap16;
 use super::swap32;
 use super::swap64;
 use super::wide;
 ghost use mathlib.Core.Path.{_≡_};
-ghost use Prim.Native.Nat.{_+_, _*_, _≤_, _<_, _^_};
+ghost use Prim.Native.Nat.{_+_, _*_, _/_, _≤_, _<_, _^_};
 ghost use lib.ListN.{length};
 ghost use Rattle.octets.specs.Bytes.{be};
+ghost use Rattle.octets.specs.Bits.{bits};
 ghost use Rattle.octets.specs.Private.{swap2, swap4, swap8};
 
 // Two bytes as the machine reads them: enough to tell whether they are those of a number that was swapped once.
@@ -61,4 +62,12 @@ pub fn get64(b: &[u8], at: usize) -> u64
     ensures { λ r. ⌜ r ≡ be (now (b .entry)) at 8 ⌝ }
 {
     swap64(octet(b, at))
+}
+
+// The `width` bits from bit `at` on, in one load: the bits before them are shifted out, then those behind.
+pub fn get_bits(b: &[u8], at: usize, width: usize) -> u32
+    requires { ⌜ (at / 8 + 4 ≤ length (now b)) × (1 ≤ width) × (width ≤ 25) ⌝ }
+    ensures { λ r. ⌜ r ≡ bits (now (b .entry)) at width ⌝ }
+{
+    get32(b, at / 8) << (at % 8) >> (32 - width)
 }

@@ -26,16 +26,13 @@ use Rattle.rules.specs.declared.Usage.{Usage}
 use Rattle.rules.specs.declared.Usage.the-variants.{RunInput, Effect as InEffect}
 use Rattle.rules.specs.declared.Context.{Context}
 use Rattle.elements.specs.Table.{table, below, position, kindOf, numberOf}
-use Rattle.rules.specs.Rules.{permits, sizeFits, scopeFor}
+use Rattle.rules.specs.Rules.{sizeFits, scopeFor}
 use Rattle.elements.specs.Later.{offerOf}
 use Rattle.elements.specs.Right.{bytesOf}
-use Rattle.elements.proofs.Table.{position-end, source-stored}
-use Rattle.rules.proofs.Rules.{size-listed, permits-scope}
+use Rattle.rules.proofs.Rules.{size-listed}
 use Rattle.gsb.specs.declared.Walked.the-variants.{Done}
 use Rattle.gsb.specs.Message.{message}
 use Rattle.gsb.specs.Walk.{countOf, idAt, sizeAt, offsetAt, firstBad}
-use Rattle.gsb.proofs.Judged.{GoodElement, good-element}
-use Rattle.gsb.proofs.First.{all-good}
 use Rattle.store.specs.declared.Layout.{Layout}
 use Rattle.store.specs.Layout.{Sound, small, guestBytes, slotBytes, guestAt, slotAt}
 use Rattle.store.specs.Search.{every, first}
@@ -49,8 +46,9 @@ use Rattle.store.proofs.Frame.{header-full, header-values, header-slot, header-
 use Rattle.store.proofs.Beside.{live-write, slot-write}
 use Rattle.store.proofs.Kept.{words-are, drop-less, deleted-else, deleted-other, deleted-mark, guest-mark, vcpu-mark-else}
 use Rattle.transfer.specs.Transfer.{valueAt, putFrom, putAs, applied, readFrom, fillAs, filled}
-use Rattle.exits.specs.Exits.{exits, rowOf, returned, elementOf, valued, outputOf}
-use Rattle.exits.proofs.Written.{allFit, rowFits, rowsFit, exits-fit, fits-row}
+use Rattle.transfer.proofs.Named.{counted-good, element-within}
+use Rattle.exits.specs.Exits.{returned, elementOf, valued, outputOf}
+use Rattle.exits.proofs.Written.{allFit, returned-fit}
 use Rattle.admission.specs.Refusals.{Outcome, success, accept, refuse, decide, hasBit0, handsOver, Passed}
 use Rattle.admission.specs.Target.{targetTests, baseOf}
 use Rattle.admission.proofs.Judging.{same-after}
@@ -98,18 +96,9 @@ decided-after s q w b tests begun rest seen o done e f g =
 -- ---- what is moved to and from other values
 -- an accepted buffer, and values at base that a write into q.. does not meet
 module _ (k : Context) (base : ℕ) (b : List ℕ) (d : firstBad k b ≡ Done) (q : ℕ) (w : List ℕ) (c : Clear base (bytesOf (scopeFor (k .usage))) q (length w)) where
-  good : (i : ℕ) → i < countOf b → GoodElement k b (offsetAt b i)
-  good i h = good-element k b (offsetAt b i) (offsetAt b (i + 1)) (all-good k b .0 d i h) .0
-
   -- a counted element's value lies among those at base
   element-apart : (i : ℕ) → i < countOf b → (x : Entry) (p : ℕ) → kindOf (idAt b (offsetAt b i)) ≡ Listed x → x .source ≡ Stored p → Clear (base + p) (x .size) q (length w)
-  element-apart i h x p e st =
-      let id = idAt b (offsetAt b i) in
-      let a : permits k id (Listed x) ≡ true = ap (permits k id) (sym e) ∙ good i h .permitted in
-      let f = source-stored id x p e st in
-      let y = position-end (x .scope) id x e refl (f .0) in
-      let z : bytesOf (x .scope) ≡ bytesOf (scopeFor (k .usage)) = ap bytesOf (permits-scope k id x a) in
-      clear-sym (clear-part p (x .size) (omega (arith, y, z, f .1)) (clear-sym c))
+  element-apart i h x p e st = clear-sym (clear-part p (x .size) (element-within k b d i h x p e st) (clear-sym c))
 
   element-write : (i : ℕ) → i < countOf b → (s : List ℕ) (kind : Kind) → kindOf (idAt b (offsetAt b i)) ≡ kind → sizeFits kind (sizeAt b (offsetAt b i)) ≡ true
       → putAs kind base (valueAt b (offsetAt b i)) (put s q w) ≡ put (putAs kind base (valueAt b (offsetAt b i)) s) q w
@@ -119,7 +108,7 @@ module _ (k : Context) (base : ℕ) (b : List ℕ) (d : firstBad k b ≡ Done) (
   element-write i h s (Listed x) e f = go (x .source) refl
     where
       long : length (valueAt b (offsetAt b i)) ≡ x .size
-      long = length-bytesAt b (offsetAt b i + 4) (sizeAt b (offsetAt b i)) (good i h .inside) ∙ size-listed x (sizeAt b (offsetAt b i)) f
+      long = length-bytesAt b (offsetAt b i + 4) (sizeAt b (offsetAt b i)) (counted-good k b d i h .inside) ∙ size-listed x (sizeAt b (offsetAt b i)) f
 
       go : (y : Source) → x .source ≡ y → putFrom y base (valueAt b (offsetAt b i)) (put s q w) ≡ put (putFrom y base (valueAt b (offsetAt b i)) s) q w
       go (Fixed n) z = refl
@@ -130,7 +119,7 @@ module _ (k : Context) (base : ℕ) (b : List ℕ) (d : firstBad k b ≡ Done) (
   applied-write zero h s = refl
   applied-write (suc n) h s =
       ap (putAs (kindOf (idAt b (offsetAt b n))) base (valueAt b (offsetAt b n))) (applied-write n (omega arith) s)
-      ∙ element-write n (omega arith) (applied base b n s) (kindOf (idAt b (offsetAt b n))) refl (good n (omega arith) .sized)
+      ∙ element-write n (omega arith) (applied base b n s) (kindOf (idAt b (offsetAt b n))) refl (counted-good k b d n (omega arith) .sized)
 
   element-read : (i : ℕ) → i < countOf b → (s a : List ℕ) (kind : Kind) → kindOf (idAt b (offsetAt b i)) ≡ kind → fillAs kind base (put s q w) (offsetAt b i) a ≡ fillAs kind base s (offsetAt b i) a
   unfolding fillAs readFrom
@@ -150,16 +139,6 @@ module _ (k : Context) (base : ℕ) (b : List ℕ) (d : firstBad k b ≡ Done) (
       ∙ ap (fillAs (kindOf (idAt b (offsetAt b n))) base s (offsetAt b n)) (filled-write n (omega arith) s)
 
 -- ---- the output of a run
--- the elements of every exit lie among a slot's values
-rows-fit : (xs : List (ℕ × List ℕ)) (exit : ℕ) → rowsFit xs ≡ true → allFit (rowOf xs exit) ≡ true
-unfolding rowOf
-rows-fit [] exit e = refl
-rows-fit (x ∷ xs) exit e = go (eqb (x .0) exit) (both (rowFits (x .1)) (rowsFit xs) e) (rows-fit xs exit)
-  where
-    go : (t : Bool) → (rowFits (x .1) ≡ true) × (rowsFit xs ≡ true) → (rowsFit xs ≡ true → allFit (rowOf xs exit) ≡ true) → allFit (cond t (x .1) (rowOf xs exit)) ≡ true
-    go true p ih = fits-row (x .1) (p .0) .all
-    go false p ih = ih (p .1)
-
 module _ (base q : ℕ) (w : List ℕ) (c : Clear base slotBytes q (length w)) where
   valued-write : (s ids : List ℕ) → allFit ids ≡ true → valued base (put s q w) ids ≡ valued base s ids
   unfolding valued
@@ -173,7 +152,7 @@ module _ (base q : ℕ) (w : List ℕ) (c : Clear base slotBytes q (length w)) w
 
   output-write : (s : List ℕ) (exit : ℕ) → outputOf base (put s q w) exit ≡ outputOf base s exit
   unfolding outputOf
-  output-write s exit = ap message (valued-write s (returned exit) (rows-fit exits exit exits-fit))
+  output-write s exit = ap message (valued-write s (returned exit) (returned-fit exit))
 
 -- ---- the slot of a vCPU
 -- no other slot has the word, since the store is well formed

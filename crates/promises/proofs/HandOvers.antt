@@ -19,7 +19,7 @@ use Rattle.handover.specs.Form.{form, StartsWith, begins, valuesOf, stateAt, ta
 use Rattle.handover.proofs.Theorems.{long-form, given-form, begins-parts, given-exactly, put-starts}
 use Rattle.handover.proofs.Frame.{values-long, taken-buffer-long}
 use Rattle.store.specs.declared.Layout.{Layout}
-use Rattle.store.specs.Layout.{Sound, small, slotBytes, slotAt}
+use Rattle.store.specs.Layout.{Sound, slotBytes, slotAt}
 use Rattle.store.specs.Header.{header, live, word, isUsed, isTaken, slotOf}
 use Rattle.store.specs.Store.{wellFormed, fresh, putTaken}
 use Rattle.store.proofs.Search.{no-bool}
@@ -28,7 +28,6 @@ use Rattle.store.proofs.Marks.{slot-of-mark, taken-here}
 use Rattle.store.proofs.Beside.{mark-values, mark-write}
 use Rattle.store.proofs.Again.{mark-again, mark-none}
 use Rattle.store.proofs.Kept.{taken-used}
-use Rattle.store.proofs.Small.{sound-small}
 use Rattle.admission.specs.Refusals.{Outcome, accept, refuse, decide, bit1, Passed}
 use Rattle.admission.specs.Target.{slotNamed, isAway}
 use Rattle.state.specs.HandOver.{outOfRange, takeFrom, giveTo, takeVcpu, giveVcpu}
@@ -252,5 +251,5 @@ pub marks-used : (l : Layout) → Sound l → (s : List ℕ) → wellFormed l s 
     → isTaken l (header l (after l s cs)) a ≡ true → isUsed l (word l (header l (after l s cs)) a) ≡ true
 marks-used l so s good cs a la t = taken-used l so (after l s cs) (history-kept l so s good cs) a la t
 
-pub history-marks : (cs : List Call) (a : ℕ) → a < small .slots → isTaken small (header small (after small (fresh small) cs)) a ≡ true → isUsed small (word small (header small (after small (fresh small) cs)) a) ≡ true
-history-marks cs a la t = taken-used small sound-small (after small (fresh small) cs) (fresh-history cs) a la t
+pub history-marks : (l : Layout) → Sound l → (cs : List Call) (a : ℕ) → a < l .slots → isTaken l (header l (after l (fresh l) cs)) a ≡ true → isUsed l (word l (header l (after l (fresh l) cs)) a) ≡ true
+history-marks l so cs a la t = taken-used l so (after l (fresh l) cs) (fresh-history l so cs) a la t

@@ -10,12 +10,12 @@ use Rattle.answer.specs.declared.Call.{Call as Name}
 use Rattle.answer.specs.declared.Fault.{Fault}
 use Rattle.answer.specs.declared.Fault.the-variants.{None}
 use Rattle.store.specs.declared.Layout.{Layout}
-use Rattle.store.specs.Layout.{Sound, small, slotBytes}
+use Rattle.store.specs.Layout.{Sound, slotBytes}
 use Rattle.store.specs.Header.{header, live, isDead, freeGuest, headGood, wordsGood}
 use Rattle.store.specs.Store.{wellFormed, fresh, withoutGuest, withoutGuests}
 use Rattle.store.proofs.Search.{first-bounds}
 use Rattle.store.proofs.Kept.{guest-kept, vcpu-kept, delete-kept, delete-all-kept, caps-kept}
-use Rattle.store.proofs.Small.{sound-small, fresh-good}
+use Rattle.store.proofs.Fresh.{fresh-good}
 use Rattle.store.proofs.Frame.{header-values}
 use Rattle.elements.specs.declared.Source.{Source}
 use Rattle.elements.specs.declared.Source.the-variants.{Fixed, Stored}
@@ -198,5 +198,5 @@ unfolding after
 history-kept l so s good [] = good
 history-kept l so s good (c ∷ cs) = history-kept l so (outcome l s c .store) (well-formed-kept l so s good c) cs
 
-pub fresh-history : (cs : List Call) → wellFormed small (after small (fresh small) cs) ≡ true
-fresh-history cs = history-kept small sound-small (fresh small) fresh-good cs
+pub fresh-history : (l : Layout) → Sound l → (cs : List Call) → wellFormed l (after l (fresh l) cs) ≡ true
+fresh-history l so cs = history-kept l so (fresh l) (fresh-good l so) cs

@@ -12,3 +12,4 @@ pub mod Edges
 pub mod Apart
 pub mod Pvr
 pub mod Lists
+pub mod Both

@@ -25,7 +25,7 @@ use Rattle.store.proofs.Tests.{of-found, live-parts}
 use Rattle.store.proofs.WordFields.{live-here, live-else}
 use Rattle.store.proofs.Marks.{word-slot, word-slot-else, live-slot}
 use Rattle.store.proofs.Frame.{header-full, header-values, header-slot, header-live, formed}
-use Rattle.store.proofs.Kept.{guests-gone, deleted-live, deleted-slot, deleted-other}
+use Rattle.store.proofs.Kept.{vcpu-word, guests-gone, deleted-live, deleted-slot, deleted-other}
 use Rattle.admission.specs.Refusals.{Outcome, accept, refuse, decide, hasBit0, Passed}
 use Rattle.guests.specs.Guests.{createGuest, createVcpu, deleteGuest}
 use Rattle.l0.specs.Calls.{CreateGuest, CreateVcpu, DeleteGuest, outcome}
@@ -167,8 +167,7 @@ module _ (l : Layout) (so : Sound l) (s : List ℕ) where
     full = header-full l so s (formed l s (m .good) .long)
 
     pub new-word : wordOf l g v < 4096 * l .ids
-    unfolding wordOf
-    new-word = let p = live-parts l (header l s) g (m .lives) in let small = m .small in omega (arith, p .1, so .nameable)
+    new-word = vcpu-word l so g v (live-parts l (header l s) g (m .lives) .1) (m .small)
 
     pub made-header : header l (withVcpu l s here g v) ≡ putSlot l (header l s) here (wordOf l g v)
     unfolding withVcpu
@@ -234,7 +233,7 @@ module _ (l : Layout) (so : Sound l) (s : List ℕ) where
         go false e = refl
         go true e = let p = live-parts l (header l (withoutGuests l s)) g e in sym e ∙ none-live (l .guests) (omega arith) g (p .0) (p .1)
 
-    all-gone : (a : ℕ) → a < l .slots → word l (header l (withoutGuests l s)) a ≡ 0
+    pub all-gone : (a : ℕ) → a < l .slots → word l (header l (withoutGuests l s)) a ≡ 0
     unfolding withoutGuests
     all-gone = guests-gone l so s good (l .guests) (omega arith) .bare
 

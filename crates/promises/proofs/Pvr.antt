@@ -13,7 +13,7 @@ use borrow.Author.Tests.{eqb-true, ltb-true, ltb-false, not-true, not-false}
 use Rattle.octets.specs.Bytes.{bytesAt, put, be, digits, zeros, Clear, left, right}
 use Rattle.octets.specs.Bits.{bit, bits, ins, setBit, putBits}
 use Rattle.octets.proofs.Bytes.{clear-part, length-zeros, length-bytesAt, read-back}
-use Rattle.octets.proofs.Numbers.{be-ext, be-part, be-other, length-digits}
+use Rattle.octets.proofs.Numbers.{be-ext, be-part, be-other, be-zeros, length-digits}
 use Rattle.octets.proofs.Bits.{getD-putBits}
 use Rattle.answer.specs.declared.Fault.{Fault}
 use Rattle.elements.specs.declared.Scope.the-variants.{Guest as GuestWide}
@@ -76,17 +76,6 @@ listed-size id x e = cc
 pvr-ruled : (k : Context) → k .usage ≡ GuestSet → (id : ℕ) (b : List ℕ) (at : ℕ) → id ≡ 0x0003 → goodValue k id b at ≡ true → goodPvr (k .capabilities) (be b at 4) ≡ true
 unfolding goodValue ruleOf
 pvr-ruled k u id b at q h = sym (simp (ap isSetting u, ap (λ (n : ℕ). eqb n 0x0003) q)) ∙ h
-
-zero-at : (n i : ℕ) → getD (zeros n) i 0 ≡ 0
-unfolding zeros
-zero-at zero i = refl
-zero-at (suc n) zero = refl
-zero-at (suc n) (suc i) = zero-at n i
-
-be-zeros : (n i m : ℕ) → be (zeros n) i m ≡ 0
-unfolding be
-be-zeros n i zero = refl
-be-zeros n i (suc m) = ap₂ (λ (x y : ℕ). x * 256 + y) (be-zeros n i m) (zero-at n (i + m))
 
 -- what is agreed is told by 64 bits
 agreed-low : (c v : ℕ) → ZeroOrAgreed c v → ZeroOrAgreed (c % 2 ^ 64) v

@@ -1,5 +1,5 @@
 -- THEOREMS `slots-used`, `slots-free`: the slots used are the accepted vCPU creations less those dropped by deletes, over every history
--- from a fresh store; 16 less that are free. Assumes nothing.
+-- from a fresh store; those of the layout less that are free. Assumes nothing.
 use mathlib.Core.Path.{_≡_, refl, sym, ap, ap₂, _∙_, subst}
 use mathlib.Core.Logic.{_≢_}
 use mathlib.Core.Bool.{Bool, true, false, not, _&&_, cond}
@@ -16,16 +16,16 @@ use Rattle.answer.specs.declared.Fault.{Fault}
 use Rattle.gsb.specs.Walk.{countOf}
 use Rattle.transfer.specs.Transfer.{applied}
 use Rattle.store.specs.declared.Layout.{Layout}
-use Rattle.store.specs.Layout.{Sound, small, guestAt, guestBytes, slotBytes}
+use Rattle.store.specs.Layout.{Sound, small, large, guestAt, guestBytes, slotBytes}
 use Rattle.store.specs.Search.{tally}
 use Rattle.store.specs.Header.{header, word, wordOf, isUsed, guestOf, holds, lacks, freeSlot, isDead, freeGuest, usedSlots}
 use Rattle.store.specs.Store.{wellFormed, fresh, putLive, withGuest, withVcpu}
-use Rattle.store.proofs.Search.{first-bounds, tally-ext, tally-more, tally-sum, tally-all}
+use Rattle.store.proofs.Search.{first-bounds, tally-ext, tally-more, tally-none, tally-sum, tally-all}
 use Rattle.store.proofs.WordFields.{word-live}
 use Rattle.store.proofs.Marks.{word-slot, word-slot-else}
 use Rattle.store.proofs.Frame.{header-full, header-values, header-caps, header-live, formed}
 use Rattle.store.proofs.Kept.{words-are, caps-word}
-use Rattle.store.proofs.Small.{sound-small, fresh-good}
+use Rattle.store.proofs.Fresh.{fresh-good, fresh-word}
 use Rattle.admission.specs.Refusals.{Outcome, refuse}
 use Rattle.admission.specs.Target.{baseOf}
 use Rattle.handover.specs.Form.{valuesOf}
@@ -294,22 +294,28 @@ history-even l s n (c ∷ cs) e = history-even l (outcome l s c .store) (cond (i
     go false = e
 
 -- a fresh store has no slot used
-fresh-matches : Matches small (fresh small) []
-unfolding tally word bits bit header bytesAt fresh zeros isUsed howMany
-fresh-matches = record { as-many = λ p. refl }
+fresh-matches : (l : Layout) → Sound l → Matches l (fresh l) []
+unfolding howMany isUsed
+fresh-matches l so = record { as-many = λ p. tally-ext (named l (header l (fresh l)) p) (λ a. false) (l .slots) (λ a k. none p a) ∙ tally-none (l .slots) }
+  where
+    none : (p : ℕ → Bool) (a : ℕ) → named l (header l (fresh l)) p a ≡ false
+    none p a =
+        let w = word l (header l (fresh l)) a in
+        let h : w < l .ids * 2048 = omega (arith, fresh-word l so a, so .nameable) in
+        ap (λ (t : Bool). t && p (guestOf l w)) (lt-leb (l .ids * 2048) w h)
 
 nothing-even : Even nothing
 unfolding howMany
 nothing-even = record { sum = refl }
 
-pub slots-used : (cs : List Call) → usedSlots small (header small (after small (fresh small) cs)) + history small cs .dropped ≡ history small cs .created
-slots-used cs =
-    let u = used-named small sound-small (after small (fresh small) cs) (fresh-history cs) in
-    let m = history-matches small sound-small (fresh small) fresh-good nothing cs fresh-matches .as-many (λ g. true) in
-    omega (arith, u, m, history-even small (fresh small) nothing cs nothing-even .sum)
+pub slots-used : (l : Layout) → Sound l → (cs : List Call) → usedSlots l (header l (after l (fresh l) cs)) + history l cs .dropped ≡ history l cs .created
+slots-used l so cs =
+    let u = used-named l so (after l (fresh l) cs) (fresh-history l so cs) in
+    let m = history-matches l so (fresh l) (fresh-good l so) nothing cs (fresh-matches l so) .as-many (λ g. true) in
+    omega (arith, u, m, history-even l (fresh l) nothing cs nothing-even .sum)
 
-pub slots-used-less : (cs : List Call) → usedSlots small (header small (after small (fresh small) cs)) ≡ history small cs .created - history small cs .dropped
-slots-used-less cs = omega (arith, slots-used cs)
+pub slots-used-less : (l : Layout) → Sound l → (cs : List Call) → usedSlots l (header l (after l (fresh l) cs)) ≡ history l cs .created - history l cs .dropped
+slots-used-less l so cs = omega (arith, slots-used l so cs)
 
 -- ---- the free ones: every slot is used or free
 pub free-and-used : (l : Layout) (h : List ℕ) → freeSlots l h + usedSlots l h ≡ l .slots
@@ -320,8 +326,12 @@ free-and-used l h = tally-sum (holds l h 0) (lacks l h 0) (λ a. true) (l .slots
     either true = refl
     either false = refl
 
-pub slots-free : (cs : List Call) → freeSlots small (header small (after small (fresh small) cs)) + usedSlots small (header small (after small (fresh small) cs)) ≡ 16
-slots-free cs = free-and-used small (header small (after small (fresh small) cs))
+pub slots-free : (l : Layout) (cs : List Call) → freeSlots l (header l (after l (fresh l) cs)) ≡ l .slots - usedSlots l (header l (after l (fresh l) cs))
+slots-free l cs = omega (arith, free-and-used l (header l (after l (fresh l) cs)))
 
-pub slots-free-less : (cs : List Call) → freeSlots small (header small (after small (fresh small) cs)) ≡ 16 - usedSlots small (header small (after small (fresh small) cs))
-slots-free-less cs = omega (arith, slots-free cs)
+-- "16 less that are free", and 02, L6: "63 guests and 64 slots"
+pub slots-free-small : (cs : List Call) → freeSlots small (header small (after small (fresh small) cs)) ≡ 16 - usedSlots small (header small (after small (fresh small) cs))
+slots-free-small cs = slots-free small cs
+
+pub slots-free-large : (cs : List Call) → freeSlots large (header large (after large (fresh large) cs)) ≡ 64 - usedSlots large (header large (after large (fresh large) cs))
+slots-free-large cs = slots-free large cs

@@ -4,3 +4,5 @@ pub mod Edges
 pub mod Apart
 pub mod Agreed
 pub mod Lists
+pub mod Mirror
+pub mod Both

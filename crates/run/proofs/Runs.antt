@@ -25,7 +25,7 @@ use Rattle.gsb.specs.declared.Walked.the-variants.{Done, Stopped}
 use Rattle.gsb.specs.Walk.{countOf, badLength, firstBad}
 use Rattle.gsb.proofs.Walks.{long-enough}
 use Rattle.store.specs.declared.Layout.{Layout}
-use Rattle.store.specs.Layout.{Sound, small, slotBytes}
+use Rattle.store.specs.Layout.{Sound, slotBytes}
 use Rattle.store.specs.Header.{header, slotOf}
 use Rattle.store.proofs.Frame.{formed}
 use Rattle.store.proofs.Search.{both}
@@ -354,23 +354,23 @@ module _ (l : Layout) (s : List ℕ) (flags guest vcpu : ℕ) (input : List ℕ)
           ready-as (contextOf l s guest InEffect) base (length s) effect (stopped-not _ (t .1 .0)) call-room (long-enough effect (badLength effect) refl (t .0))
 
 -- the call
-module _ (l : Layout) (e : l ≡ small) (s : List ℕ) (flags guest vcpu : ℕ) (input output effect : List ℕ) (exit outputLength : ℕ) (m : outputLength ≡ length output)
+module _ (l : Layout) (s : List ℕ) (flags guest vcpu : ℕ) (input output effect : List ℕ) (exit outputLength : ℕ) (m : outputLength ≡ length output)
     (a : RunTarget) (q : a ≡ judgedRun l s flags guest vcpu input outputLength effect exit) where
   abbrev done : Outcome
   done = ran (baseOf l s false guest vcpu) s (inputOf s (baseOf l s false guest vcpu) input) output effect exit
 
-  call-as : firstOf (refuse s output) (runTests l s flags guest vcpu input outputLength effect exit) done ≡ runVcpu small s flags guest vcpu input output effect exit
+  call-as : firstOf (refuse s output) (runTests l s flags guest vcpu input outputLength effect exit) done ≡ runVcpu l s flags guest vcpu input output effect exit
   unfolding runVcpu decide
-  call-as = ap (λ (n : ℕ). firstOf (refuse s output) (runTests l s flags guest vcpu input n effect exit) done) m ∙ ap (λ (k : Layout). runVcpu k s flags guest vcpu input output effect exit) e
+  call-as = ap (λ (n : ℕ). firstOf (refuse s output) (runTests l s flags guest vcpu input n effect exit) done) m
 
-  pub call-off : (r : Answer) (f : Fault) → a ≡ RunRefused f → r ≡ refusal f → _≡_ {A = Outcome} (record { answer = r; store = s; buffer = output }) (runVcpu small s flags guest vcpu input output effect exit)
+  pub call-off : (r : Answer) (f : Fault) → a ≡ RunRefused f → r ≡ refusal f → _≡_ {A = Outcome} (record { answer = r; store = s; buffer = output }) (runVcpu l s flags guest vcpu input output effect exit)
   call-off r f h i =
       ap (λ (x : Answer). record { answer = x; store = s; buffer = output }) i
       ∙ sym (all-refused (refuse s output) done (runTests l s flags guest vcpu input outputLength effect exit) f (call-turned l s flags guest vcpu input outputLength effect exit a q f h)) ∙ call-as
 
   pub call-left : (base n : ℕ) → a ≡ Slot base n → (part : List ℕ) → part ≡ bytesAt input 0 n → (r : Answer) (u o : List ℕ)
       → _≡_ {A = Outcome} (record { answer = r; store = u; buffer = o }) (ran base s part output effect exit)
-      → _≡_ {A = Outcome} (record { answer = r; store = u; buffer = o }) (runVcpu small s flags guest vcpu input output effect exit)
+      → _≡_ {A = Outcome} (record { answer = r; store = u; buffer = o }) (runVcpu l s flags guest vcpu input output effect exit)
   call-left base n h part p r u o i =
       let f = call-found l s flags guest vcpu input outputLength effect exit a q base n h in
       i ∙ ap₂ (λ (x : ℕ) (y : List ℕ). ran x s y output effect exit) (sym (slot-same (f .1) .0)) (call-part l s flags guest vcpu input outputLength effect exit a q base n h part p)

@@ -6,7 +6,6 @@ use answer::refusal;
 use answer::success;
 use exits::put_output;
 use octets::first_bytes;
-use store::small_layout;
 use transfer::apply;
 ghost use mathlib.Core.Path.{_≡_};
 ghost use mathlib.Core.Bool.{true};
@@ -14,7 +13,7 @@ ghost use Prim.Native.Nat.{_+_, _≤_};
 ghost use lib.ListN.{length};
 ghost use Rattle.exits.specs.Exits.{known};
 ghost use Rattle.transfer.specs.Transfer.{AllReady};
-ghost use Rattle.store.specs.Layout.{small, slotBytes};
+ghost use Rattle.store.specs.Layout.{layoutOf, slotBytes};
 ghost use Rattle.admission.specs.Refusals.{Outcome};
 ghost use Rattle.run.specs.Run.{ran, runVcpu};
 
@@ -47,12 +46,10 @@ pub fn run_vcpu(
     effect: &[u8],
     exit_reason: u64,
 ) -> Answer
-    ensures { λ r. ⌜ _≡_ {A = Outcome} (record { answer = r; store = now (store .exit); buffer = now (output .exit) }) (runVcpu small (now (store .entry)) flags guest vcpu (now (input .entry)) (now (output .entry)) (now (effect .entry)) «exit_reason») ⌝ }
+    ensures { λ r. ⌜ _≡_ {A = Outcome} (record { answer = r; store = now (store .exit); buffer = now (output .exit) }) (runVcpu (layoutOf (now (store .entry))) (now (store .entry)) flags guest vcpu (now (input .entry)) (now (output .entry)) (now (effect .entry)) «exit_reason») ⌝ }
 {
-    let l = small_layout();
     let target = judge_run(
         store,
-        l,
         flags,
         guest as usize,
         vcpu as usize,

@@ -3,7 +3,7 @@ mod entry;
 
 use admission::Admission;
 use admission::Target;
-use admission::small_target;
+use admission::target_of;
 use answer::Fault;
 use answer::Place;
 use answer::RunBuffer;
@@ -19,11 +19,10 @@ use rules::Usage;
 use rules::good_input;
 use rules::good_output;
 use state::context_of;
-use store::Layout;
 ghost use mathlib.Core.Path.{_≡_};
 ghost use Prim.Native.Nat.{_+_, _≤_};
 ghost use lib.ListN.{length};
-ghost use Rattle.store.specs.Layout.{Sound, small, slotBytes};
+ghost use Rattle.store.specs.Layout.{layoutOf, slotBytes};
 ghost use Rattle.run.specs.Private.{lentGood, exitGood, contentGood, runTargetOf, judgedRun};
 
 // What a run works on: where the vCPU's values start, and how many bytes of the lent input count; or a refusal.
@@ -71,7 +70,6 @@ fn judge_lent(
 // The tests 1 to 12 and 16. The L1 cache makes them too, before it writes an input.
 pub fn run_target_of(
     store: &[u8],
-    l: Layout,
     flags: u64,
     guest: usize,
     vcpu: usize,
@@ -79,10 +77,9 @@ pub fn run_target_of(
     input_len: usize,
     output_len: usize,
 ) -> RunTarget
-    requires { ⌜ l ≡ small ⌝ }
-    ensures { λ r. ⌜ r ≡ runTargetOf l (now (store .entry)) flags guest vcpu need «input_len» «output_len» ⌝ }
+    ensures { λ r. ⌜ r ≡ runTargetOf (layoutOf (now (store .entry))) (now (store .entry)) flags guest vcpu need «input_len» «output_len» ⌝ }
 {
-    let target = small_target(store, l, 0xE000_0000_0000_0000, flags, false, guest, vcpu);
+    let target = target_of(store, 0xE000_0000_0000_0000, flags, false, guest, vcpu);
     match target {
         Target::Refused(fault) => RunTarget::Refused(fault),
         Target::At(base) => {
@@ -118,28 +115,20 @@ pub fn judge_exit(k: Context, effect: &[u8], exit: u64) -> Admission
 }
 
 // The input's elements, then 13 and 14.
-fn judge_content(
-    store: &[u8],
-    l: Layout,
-    guest: usize,
-    input: &[u8],
-    effect: &[u8],
-    exit: u64,
-) -> Admission
-    requires { ⌜ Sound l × (length (now store) ≡ l .size) × (1 ≤ guest) × (guest ≤ l .guests) × (4 ≤ length (now input)) ⌝ }
-    ensures { λ r. ⌜ r ≡ contentGood l (now (store .entry)) guest (now (input .entry)) (now (effect .entry)) exit ⌝ }
+fn judge_content(store: &[u8], guest: usize, input: &[u8], effect: &[u8], exit: u64) -> Admission
+    requires { ⌜ (length (now store) ≡ layoutOf (now store) .size) × (1 ≤ guest) × (guest ≤ layoutOf (now store) .guests) × (4 ≤ length (now input)) ⌝ }
+    ensures { λ r. ⌜ r ≡ contentGood (layoutOf (now (store .entry))) (now (store .entry)) guest (now (input .entry)) (now (effect .entry)) exit ⌝ }
 {
-    match first_bad(input, context_of(store, l, guest, Usage::RunInput)) {
+    match first_bad(input, context_of(store, guest, Usage::RunInput)) {
         Walked::Stopped(bad, place) => return Admission::Refused(Fault::Element(bad, place)),
         Walked::Done => {}
     }
-    judge_exit(context_of(store, l, guest, Usage::Effect), effect, exit)
+    judge_exit(context_of(store, guest, Usage::Effect), effect, exit)
 }
 
 // All the tests of a run.
 pub fn judge_run(
     store: &[u8],
-    l: Layout,
     flags: u64,
     guest: usize,
     vcpu: usize,
@@ -148,14 +137,13 @@ pub fn judge_run(
     effect: &[u8],
     exit: u64,
 ) -> RunTarget
-    requires { ⌜ l ≡ small ⌝ }
-    ensures { λ r. ⌜ r ≡ judgedRun l (now (store .entry)) flags guest vcpu (now (input .entry)) «output_len» (now (effect .entry)) exit ⌝ }
+    ensures { λ r. ⌜ r ≡ judgedRun (layoutOf (now (store .entry))) (now (store .entry)) flags guest vcpu (now (input .entry)) «output_len» (now (effect .entry)) exit ⌝ }
 {
-    let target = run_target_of(store, l, flags, guest, vcpu, 0, input.len(), output_len);
+    let target = run_target_of(store, flags, guest, vcpu, 0, input.len(), output_len);
     match target {
         RunTarget::Refused(fault) => RunTarget::Refused(fault),
         RunTarget::Slot(base, size) => {
-            let content = judge_content(store, l, guest, first_bytes(input, size), effect, exit);
+            let content = judge_content(store, guest, first_bytes(input, size), effect, exit);
             match content {
                 Admission::Refused(fault) => RunTarget::Refused(fault),
                 Admission::Admitted => RunTarget::Slot(base, size),

@@ -26,8 +26,9 @@ use Rattle.gsb.specs.declared.Walked.the-variants.{Done, Stopped}
 use Rattle.gsb.specs.Walk.{countOf, badLength, firstBad}
 use Rattle.gsb.proofs.Walks.{long-enough}
 use Rattle.store.specs.declared.Layout.{Layout}
-use Rattle.store.specs.Layout.{Sound, small, guestBytes, slotBytes, guestAt}
+use Rattle.store.specs.Layout.{layoutOf, guestBytes, slotBytes, guestAt}
 use Rattle.store.specs.Header.{header, capabilitiesOf}
+use Rattle.store.proofs.Sizes.{sized-sound}
 use Rattle.transfer.specs.Transfer.{applied, filled, AllReady}
 use Rattle.transfer.proofs.Accepted.{ready-all}
 use Rattle.admission.specs.declared.Admission.{Admission}
@@ -46,15 +47,16 @@ pub pvr-place : position Guest 0x0003 ≡ 0
 unfolding position below table
 pvr-place = refl
 
-module _ (l : Layout) (s : List ℕ) (guest : ℕ) (usage : Usage) (at : ℕ) (e : (at ≡ guestAt l guest) × (l .«guests_at» ≤ at) × (at + guestBytes ≤ l .«slots_at»)) where
-  pub context-inside : Sound l → length s ≡ l .size → at + 4 ≤ length s
-  context-inside so h = omega (arith, so .whole, e .2)
+module _ (l : Layout) (s : List ℕ) (guest at : ℕ) (e : (at ≡ guestAt l guest) × (l .«guests_at» ≤ at) × (at + guestBytes ≤ l .«slots_at»)) where
+  pub context-inside : l ≡ layoutOf s → length s ≡ layoutOf s .size → at + 4 ≤ length s
+  context-inside d h = omega (arith, sized-sound l s d .whole, e .2, ap (λ (x : Layout). x .size) d)
 
-  pub context-is : (c v : ℕ) (o : Offer) → c ≡ capabilitiesOf (header l s) → v ≡ be s at 4 → o ≡ offerOf v
-      → record { usage = usage; capabilities = c; offer = o } ≡ contextOf l s guest usage
-  context-is c v o p q r =
+  pub context-is : (usage : Usage) (m : Layout) → l ≡ m → (c v : ℕ) (o : Offer) → c ≡ capabilitiesOf (header l s) → v ≡ be s at 4 → o ≡ offerOf v
+      → record { usage = usage; capabilities = c; offer = o } ≡ contextOf m s guest usage
+  context-is usage m d c v o p q r =
       let there : at ≡ guestAt l guest + position Guest 0x0003 = omega (arith, e .0, pvr-place) in
       ap₂ (λ (x : ℕ) (f : Offer). record { usage = usage; capabilities = x; offer = f }) p (r ∙ ap offerOf (q ∙ ap (λ (n : ℕ). be s n 4) there))
+      ∙ ap (λ (x : Layout). contextOf x s guest usage) d
 
 pub context-use : (l : Layout) (s : List ℕ) (guest : ℕ) (usage : Usage) (k : Context) → k ≡ contextOf l s guest usage → k .usage ≡ usage
 context-use l s guest usage k e = ap (λ (y : Context). y .usage) e
@@ -154,26 +156,24 @@ module _ (l : Layout) (s : List ℕ) (guest : ℕ) (wide : Bool) (u : Usage) (k 
   pub get-room : u ≡ getUse wide → base + bytesFor (k .usage) ≤ n
   get-room e = omega (arith, h, g, used, get-bytes wide, ap bytesFor e)
 
-module _ (l : Layout) (e : l ≡ small) (s : List ℕ) (flags : ℕ) (wide : Bool) (w : wide ≡ hasBit0 flags) (guest vcpu : ℕ) (b : List ℕ) (a : Target) (x : ℕ) (m : x ≡ supportedBits wide) (q : a ≡ targetOf l s x flags wide guest vcpu) (r : Answer) where
+module _ (l : Layout) (s : List ℕ) (flags : ℕ) (wide : Bool) (w : wide ≡ hasBit0 flags) (guest vcpu : ℕ) (b : List ℕ) (a : Target) (x : ℕ) (m : x ≡ supportedBits wide) (q : a ≡ targetOf l s x flags wide guest vcpu) (r : Answer) where
   abbrev tests : List (Bool × Fault)
   tests = targetTests l s (supportedBits wide) flags wide guest vcpu
 
   at : a ≡ targetOf l s (supportedBits wide) flags wide guest vcpu
   at = q ∙ ap (λ (y : ℕ). targetOf l s y flags wide guest vcpu) m
 
-  set-as : decide s [] (tests ++ bufferTests (contextOf l s guest (setUse wide)) b) (accept 0 (applied (baseOf l s wide guest vcpu) b (countOf b) s)) ≡ setElements small s flags guest vcpu b
+  set-as : decide s [] (tests ++ bufferTests (contextOf l s guest (setUse wide)) b) (accept 0 (applied (baseOf l s wide guest vcpu) b (countOf b) s)) ≡ setElements l s flags guest vcpu b
   unfolding setElements
   set-as =
       ap (λ (t : Bool). decide s [] (targetTests l s (supportedBits t) flags t guest vcpu ++ bufferTests (contextOf l s guest (setUse t)) b) (accept 0 (applied (baseOf l s t guest vcpu) b (countOf b) s))) w
-      ∙ ap (λ (k : Layout). setElements k s flags guest vcpu b) e
 
-  get-as : decide s b (tests ++ bufferTests (contextOf l s guest (getUse wide)) b) (fillWith s (baseOf l s wide guest vcpu) b) ≡ getElements small s flags guest vcpu b
+  get-as : decide s b (tests ++ bufferTests (contextOf l s guest (getUse wide)) b) (fillWith s (baseOf l s wide guest vcpu) b) ≡ getElements l s flags guest vcpu b
   unfolding getElements
   get-as =
       ap (λ (t : Bool). decide s b (targetTests l s (supportedBits t) flags t guest vcpu ++ bufferTests (contextOf l s guest (getUse t)) b) (fillWith s (baseOf l s t guest vcpu) b)) w
-      ∙ ap (λ (k : Layout). getElements k s flags guest vcpu b) e
 
-  pub set-turned : (f : Fault) → a ≡ TargetRefused f → r ≡ refusal f → _≡_ {A = Outcome} (record { answer = r; store = s; buffer = [] }) (setElements small s flags guest vcpu b)
+  pub set-turned : (f : Fault) → a ≡ TargetRefused f → r ≡ refusal f → _≡_ {A = Outcome} (record { answer = r; store = s; buffer = [] }) (setElements l s flags guest vcpu b)
   unfolding decide
   set-turned f h i =
       ap (λ (x : Answer). record { answer = x; store = s; buffer = [] }) i
@@ -181,20 +181,20 @@ module _ (l : Layout) (e : l ≡ small) (s : List ℕ) (flags : ℕ) (wide : Boo
       ∙ set-as
 
   pub set-found : (base : ℕ) (u : List ℕ) (usage : Usage) (k : Context) → a ≡ At base → usage ≡ setUse wide → k ≡ contextOf l s guest usage → _≡_ {A = Outcome} (record { answer = r; store = u; buffer = [] }) (setAt s base k b)
-      → _≡_ {A = Outcome} (record { answer = r; store = u; buffer = [] }) (setElements small s flags guest vcpu b)
+      → _≡_ {A = Outcome} (record { answer = r; store = u; buffer = [] }) (setElements l s flags guest vcpu b)
   unfolding setAt decide
   set-found base u usage k h v z i =
       let p = target-found l s (supportedBits wide) flags wide guest vcpu a at base h in
       i ∙ ap₂ (λ (x : ℕ) (y : Context). firstOf (refuse s []) (bufferTests y b) (accept 0 (applied x b (countOf b) s))) (sym (p .1)) (z ∙ ap (contextOf l s guest) v)
       ∙ sym (begin-admitted (refuse s []) (accept 0 (applied (baseOf l s wide guest vcpu) b (countOf b) s)) tests (bufferTests (contextOf l s guest (setUse wide)) b) (p .0)) ∙ set-as
 
-  pub get-turned : (f : Fault) → a ≡ TargetRefused f → r ≡ refusal f → _≡_ {A = Outcome} (record { answer = r; store = s; buffer = b }) (getElements small s flags guest vcpu b)
+  pub get-turned : (f : Fault) → a ≡ TargetRefused f → r ≡ refusal f → _≡_ {A = Outcome} (record { answer = r; store = s; buffer = b }) (getElements l s flags guest vcpu b)
   unfolding decide
   get-turned f h i =
       ap (λ (x : Answer). record { answer = x; store = s; buffer = b }) i
       ∙ sym (begin-refused (refuse s b) (fillWith s (baseOf l s wide guest vcpu) b) tests (bufferTests (contextOf l s guest (getUse wide)) b) f (target-judged l s (supportedBits wide) flags wide guest vcpu a at f h)) ∙ get-as
 
-  pub get-past : (base : ℕ) (usage : Usage) (k : Context) → a ≡ At base → usage ≡ getUse wide → k ≡ contextOf l s guest usage → getAt s base k b ≡ getElements small s flags guest vcpu b
+  pub get-past : (base : ℕ) (usage : Usage) (k : Context) → a ≡ At base → usage ≡ getUse wide → k ≡ contextOf l s guest usage → getAt s base k b ≡ getElements l s flags guest vcpu b
   unfolding getAt decide
   get-past base usage k h v z =
       let p = target-found l s (supportedBits wide) flags wide guest vcpu a at base h in
@@ -202,5 +202,5 @@ module _ (l : Layout) (e : l ≡ small) (s : List ℕ) (flags : ℕ) (wide : Boo
       ∙ sym (begin-admitted (refuse s b) (fillWith s (baseOf l s wide guest vcpu) b) tests (bufferTests (contextOf l s guest (getUse wide)) b) (p .0)) ∙ get-as
 
   pub get-found : (base : ℕ) (u : List ℕ) (usage : Usage) (k : Context) → a ≡ At base → usage ≡ getUse wide → k ≡ contextOf l s guest usage → _≡_ {A = Outcome} (record { answer = r; store = s; buffer = u }) (getAt s base k b)
-      → _≡_ {A = Outcome} (record { answer = r; store = s; buffer = u }) (getElements small s flags guest vcpu b)
+      → _≡_ {A = Outcome} (record { answer = r; store = s; buffer = u }) (getElements l s flags guest vcpu b)
   get-found base u usage k h v z i = i ∙ get-past base usage k h v z

@@ -35,7 +35,7 @@ use Rattle.gsb.specs.Message.{message}
 use Rattle.gsb.proofs.Walks.{offset-start}
 use Rattle.gsb.proofs.RoundTrip.{begins-self, wire-one, listed-fits, message-size, message-value, one-bad-length, one-element}
 use Rattle.store.specs.declared.Layout.{Layout}
-use Rattle.store.specs.Layout.{small, slotBytes}
+use Rattle.store.specs.Layout.{slotBytes}
 use Rattle.store.specs.Header.{header, capabilitiesOf}
 use Rattle.transfer.specs.Transfer.{filled}
 use Rattle.transfer.proofs.Messages.{filled-value-one}
@@ -176,22 +176,22 @@ module _ (id : ℕ) (p : permits (by ThreadGet 0 Full) id (kindOf id) ≡ true) 
             ∙ ap (λ (y : Outcome). bytesAt (y .buffer) 8 (length v)) found
 
     -- the call
-    module _ (l : Layout) (e : l ≡ small) (s : List ℕ) (guest vcpu : ℕ) (a : Target) (q : a ≡ targetOf l s (2 ^ 62) 0 false guest vcpu) (r : Answer) where
-      turned : (f : Fault) → a ≡ TargetRefused f → r ≡ refusal f → _≡_ {A = Outcome} (record { answer = r; store = s; buffer = buffer }) (gotElement s guest vcpu id v)
-      turned f h i = get-turned l e s 0 false refl guest vcpu buffer a (2 ^ 62) refl q r f h i ∙ get-plain small s 0 guest vcpu buffer refl
+    module _ (l : Layout) (s : List ℕ) (guest vcpu : ℕ) (a : Target) (q : a ≡ targetOf l s (2 ^ 62) 0 false guest vcpu) (r : Answer) where
+      turned : (f : Fault) → a ≡ TargetRefused f → r ≡ refusal f → _≡_ {A = Outcome} (record { answer = r; store = s; buffer = buffer }) (gotElement l s guest vcpu id v)
+      turned f h i = get-turned l s 0 false refl guest vcpu buffer a (2 ^ 62) refl q r f h i ∙ get-plain l s 0 guest vcpu buffer refl
 
-      pub one-turned : (f : Fault) → a ≡ TargetRefused f → r ≡ refusal f → r ≡ gotElement s guest vcpu id v .answer
+      pub one-turned : (f : Fault) → a ≡ TargetRefused f → r ≡ refusal f → r ≡ gotElement l s guest vcpu id v .answer
       one-turned f h i = ap (λ (o : Outcome). o .answer) (turned f h i)
 
-      pub one-kept : (f : Fault) → a ≡ TargetRefused f → r ≡ refusal f → v ≡ bytesAt (gotElement s guest vcpu id v .buffer) 8 (length v)
+      pub one-kept : (f : Fault) → a ≡ TargetRefused f → r ≡ refusal f → v ≡ bytesAt (gotElement l s guest vcpu id v .buffer) 8 (length v)
       one-kept f h i = sym value-there ∙ ap (λ (o : Outcome). bytesAt (o .buffer) 8 (length v)) (turned f h i)
 
       module _ (base : ℕ) (h : a ≡ At base) (k : Context) (is : k ≡ contextOf l s guest ThreadGet) where
-        got : getAt s base k buffer ≡ gotElement s guest vcpu id v
-        got = get-past l e s 0 false refl guest vcpu buffer a (2 ^ 62) refl q r base ThreadGet k h refl is ∙ get-plain small s 0 guest vcpu buffer refl
+        got : getAt s base k buffer ≡ gotElement l s guest vcpu id v
+        got = get-past l s 0 false refl guest vcpu buffer a (2 ^ 62) refl q r base ThreadGet k h refl is ∙ get-plain l s 0 guest vcpu buffer refl
 
-        pub one-got : r ≡ getAt s base k buffer .answer → r ≡ gotElement s guest vcpu id v .answer
+        pub one-got : r ≡ getAt s base k buffer .answer → r ≡ gotElement l s guest vcpu id v .answer
         one-got d = d ∙ ap (λ (o : Outcome). o .answer) got
 
-        pub one-bytes : (u : List ℕ) → u ≡ bytesAt (getAt s base k buffer .buffer) 8 (length v) → u ≡ bytesAt (gotElement s guest vcpu id v .buffer) 8 (length v)
+        pub one-bytes : (u : List ℕ) → u ≡ bytesAt (getAt s base k buffer .buffer) 8 (length v) → u ≡ bytesAt (gotElement l s guest vcpu id v .buffer) 8 (length v)
         one-bytes u d = d ∙ ap (λ (o : Outcome). bytesAt (o .buffer) 8 (length v)) got

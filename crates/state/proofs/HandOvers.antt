@@ -13,7 +13,7 @@ use Rattle.answer.specs.declared.Fault.{Fault}
 use Rattle.answer.specs.declared.Fault.the-variants.{Length, Taken as TakenFault, Form}
 use Rattle.handover.specs.Form.{begins, valuesOf, Taken, taken, Given, givenBack}
 use Rattle.store.specs.declared.Layout.{Layout}
-use Rattle.store.specs.Layout.{small, slotAt}
+use Rattle.store.specs.Layout.{slotAt}
 use Rattle.store.specs.Header.{header, isTaken}
 use Rattle.store.specs.Store.{putTaken}
 use Rattle.admission.specs.declared.Slot.{Slot}
@@ -156,35 +156,29 @@ module _ (l : Layout) (s : List ℕ) (j vcpu : ℕ) (b : List ℕ) (t : Bool) (e
           ap₂ (λ (x : Answer) (c : List ℕ). record { answer = x; store = c; buffer = [] }) i (w ∙ ap (λ (c : List ℕ). putTaken l c j 0) q) ∙ sym (simp (m, n, o))
 
 -- ---- by the slot
-module _ (l : Layout) (e : l ≡ small) (s : List ℕ) (guest vcpu : ℕ) (b : List ℕ) (a : Slot) (q : a ≡ vcpuSlot l s guest vcpu) (r : Answer) where
-  take-as : takeVcpu l s guest vcpu b ≡ takeVcpu small s guest vcpu b
-  take-as = ap (λ (k : Layout). takeVcpu k s guest vcpu b) e
-
-  give-as : giveVcpu l s guest vcpu b ≡ giveVcpu small s guest vcpu b
-  give-as = ap (λ (k : Layout). giveVcpu k s guest vcpu b) e
-
-  pub take-turned : (f : Fault) → a ≡ SlotRefused f → r ≡ refusal f → _≡_ {A = Outcome} (record { answer = r; store = s; buffer = b }) (takeVcpu small s guest vcpu b)
+module _ (l : Layout) (s : List ℕ) (guest vcpu : ℕ) (b : List ℕ) (a : Slot) (q : a ≡ vcpuSlot l s guest vcpu) (r : Answer) where
+  pub take-turned : (f : Fault) → a ≡ SlotRefused f → r ≡ refusal f → _≡_ {A = Outcome} (record { answer = r; store = s; buffer = b }) (takeVcpu l s guest vcpu b)
   unfolding takeVcpu decide
   take-turned f h i =
       ap (λ (x : Answer). record { answer = x; store = s; buffer = b }) i
-      ∙ sym (begin-refused (refuse s b) (takeFrom l s (slotNamed l s guest vcpu) vcpu b) (vcpuTests l s guest vcpu) (takeTests (isAway l s guest vcpu) b) f (slot-judged l s guest vcpu a q f h)) ∙ take-as
+      ∙ sym (begin-refused (refuse s b) (takeFrom l s (slotNamed l s guest vcpu) vcpu b) (vcpuTests l s guest vcpu) (takeTests (isAway l s guest vcpu) b) f (slot-judged l s guest vcpu a q f h))
 
-  pub take-found : (j : ℕ) (u c : List ℕ) → a ≡ SlotAt j → _≡_ {A = Outcome} (record { answer = r; store = u; buffer = c }) (takeAt l s j vcpu b) → _≡_ {A = Outcome} (record { answer = r; store = u; buffer = c }) (takeVcpu small s guest vcpu b)
+  pub take-found : (m : Layout) → m ≡ l → (j : ℕ) (u c : List ℕ) → a ≡ SlotAt j → _≡_ {A = Outcome} (record { answer = r; store = u; buffer = c }) (takeAt m s j vcpu b) → _≡_ {A = Outcome} (record { answer = r; store = u; buffer = c }) (takeVcpu l s guest vcpu b)
   unfolding takeVcpu takeAt decide
-  take-found j u c h i =
+  take-found m e j u c h i =
       let p = slot-named l s guest vcpu a q j h in
-      i ∙ ap (λ (x : ℕ). decide s b (takeTests (isTaken l (header l s) x) b) (takeFrom l s x vcpu b)) (sym (p .1))
-      ∙ sym (begin-admitted (refuse s b) (takeFrom l s (slotNamed l s guest vcpu) vcpu b) (vcpuTests l s guest vcpu) (takeTests (isAway l s guest vcpu) b) (p .0)) ∙ take-as
+      i ∙ ap (λ (x : Layout). takeAt x s j vcpu b) e ∙ ap (λ (x : ℕ). decide s b (takeTests (isTaken l (header l s) x) b) (takeFrom l s x vcpu b)) (sym (p .1))
+      ∙ sym (begin-admitted (refuse s b) (takeFrom l s (slotNamed l s guest vcpu) vcpu b) (vcpuTests l s guest vcpu) (takeTests (isAway l s guest vcpu) b) (p .0))
 
-  pub give-turned : (f : Fault) → a ≡ SlotRefused f → r ≡ refusal f → _≡_ {A = Outcome} (record { answer = r; store = s; buffer = [] }) (giveVcpu small s guest vcpu b)
+  pub give-turned : (f : Fault) → a ≡ SlotRefused f → r ≡ refusal f → _≡_ {A = Outcome} (record { answer = r; store = s; buffer = [] }) (giveVcpu l s guest vcpu b)
   unfolding giveVcpu decide
   give-turned f h i =
       ap (λ (x : Answer). record { answer = x; store = s; buffer = [] }) i
-      ∙ sym (begin-refused (refuse s []) (giveTo l s (slotNamed l s guest vcpu) b) (vcpuTests l s guest vcpu) (giveTests (isAway l s guest vcpu) vcpu b) f (slot-judged l s guest vcpu a q f h)) ∙ give-as
+      ∙ sym (begin-refused (refuse s []) (giveTo l s (slotNamed l s guest vcpu) b) (vcpuTests l s guest vcpu) (giveTests (isAway l s guest vcpu) vcpu b) f (slot-judged l s guest vcpu a q f h))
 
-  pub give-found : (j : ℕ) (u : List ℕ) → a ≡ SlotAt j → _≡_ {A = Outcome} (record { answer = r; store = u; buffer = [] }) (giveAt l s j vcpu b) → _≡_ {A = Outcome} (record { answer = r; store = u; buffer = [] }) (giveVcpu small s guest vcpu b)
+  pub give-found : (m : Layout) → m ≡ l → (j : ℕ) (u : List ℕ) → a ≡ SlotAt j → _≡_ {A = Outcome} (record { answer = r; store = u; buffer = [] }) (giveAt m s j vcpu b) → _≡_ {A = Outcome} (record { answer = r; store = u; buffer = [] }) (giveVcpu l s guest vcpu b)
   unfolding giveVcpu giveAt decide
-  give-found j u h i =
+  give-found m e j u h i =
       let p = slot-named l s guest vcpu a q j h in
-      i ∙ ap (λ (x : ℕ). decide s [] (giveTests (isTaken l (header l s) x) vcpu b) (giveTo l s x b)) (sym (p .1))
-      ∙ sym (begin-admitted (refuse s []) (giveTo l s (slotNamed l s guest vcpu) b) (vcpuTests l s guest vcpu) (giveTests (isAway l s guest vcpu) vcpu b) (p .0)) ∙ give-as
+      i ∙ ap (λ (x : Layout). giveAt x s j vcpu b) e ∙ ap (λ (x : ℕ). decide s [] (giveTests (isTaken l (header l s) x) vcpu b) (giveTo l s x b)) (sym (p .1))
+      ∙ sym (begin-admitted (refuse s []) (giveTo l s (slotNamed l s guest vcpu) b) (vcpuTests l s guest vcpu) (giveTests (isAway l s guest vcpu) vcpu b) (p .0))

@@ -17,7 +17,7 @@ use Rattle.gsb.specs.declared.Walked.the-variants.{Done, Stopped}
 use Rattle.gsb.specs.Walk.{countOf, badLength, firstBad}
 use Rattle.gsb.specs.Message.{message}
 use Rattle.store.specs.declared.Layout.{Layout}
-use Rattle.store.specs.Layout.{small, guestAt}
+use Rattle.store.specs.Layout.{guestAt}
 use Rattle.store.specs.Header.{header, capabilitiesOf}
 use Rattle.transfer.specs.Transfer.{applied, filled}
 use Rattle.admission.specs.Refusals.{Outcome, success, accept, decide, bit0, hasBit0, bit1, handsOver}
@@ -83,5 +83,5 @@ unfoldable pub getState : Layout → List ℕ → ℕ → ℕ → ℕ → List �
 getState l s flags guest vcpu b = cond (handsOver flags) (takeVcpu l s guest vcpu b) (getElements l s flags guest vcpu b)
 
 -- of one thread element, in a buffer that holds it alone: what the L1 cache reads
-abbrev pub gotElement : List ℕ → ℕ → ℕ → ℕ → List ℕ → Outcome
-gotElement s guest vcpu id v = getState small s 0 guest vcpu (message ((id, v) ∷ []))
+abbrev pub gotElement : Layout → List ℕ → ℕ → ℕ → ℕ → List ℕ → Outcome
+gotElement l s guest vcpu id v = getState l s 0 guest vcpu (message ((id, v) ∷ []))

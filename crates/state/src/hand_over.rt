@@ -9,14 +9,14 @@ use handover::give;
 use handover::take;
 use store::Layout;
 use store::is_taken;
+use store::layout_of;
 use store::set_taken;
 use store::slot_at;
-use store::small_layout;
 ghost use mathlib.Core.Path.{_≡_};
 ghost use mathlib.Core.List.{[]};
 ghost use Prim.Native.Nat.{_<_};
 ghost use lib.ListN.{length};
-ghost use Rattle.store.specs.Layout.{Sound, small};
+ghost use Rattle.store.specs.Layout.{Sound, layoutOf};
 ghost use Rattle.admission.specs.Refusals.{Outcome};
 ghost use Rattle.state.specs.HandOver.{outOfRange, takeVcpu, giveVcpu};
 ghost use Rattle.state.specs.Private.{takeAt, giveAt};
@@ -52,12 +52,14 @@ fn take_at(store: &mut [u8], l: Layout, slot: usize, vcpu: u64, buffer: &mut [u8
 }
 
 pub fn take_vcpu(store: &mut [u8], guest: u64, vcpu: u64, buffer: &mut [u8]) -> Answer
-    ensures { λ r. ⌜ _≡_ {A = Outcome} (record { answer = r; store = now (store .exit); buffer = now (buffer .exit) }) (takeVcpu small (now (store .entry)) guest vcpu (now (buffer .entry))) ⌝ }
+    ensures { λ r. ⌜ _≡_ {A = Outcome} (record { answer = r; store = now (store .exit); buffer = now (buffer .exit) }) (takeVcpu (layoutOf (now (store .entry))) (now (store .entry)) guest vcpu (now (buffer .entry))) ⌝ }
 {
-    let l = small_layout();
-    match vcpu_slot(store, l, guest as usize, vcpu as usize) {
+    match vcpu_slot(store, guest as usize, vcpu as usize) {
         Slot::Refused(fault) => refusal(fault),
-        Slot::At(slot) => take_at(store, l, slot, vcpu, buffer),
+        Slot::At(slot) => {
+            let l = layout_of(store);
+            take_at(store, l, slot, vcpu, buffer)
+        }
     }
 }
 
@@ -80,11 +82,13 @@ fn give_at(store: &mut [u8], l: Layout, slot: usize, vcpu: u64, buffer: &[u8]) -
 }
 
 pub fn give_vcpu(store: &mut [u8], guest: u64, vcpu: u64, buffer: &[u8]) -> Answer
-    ensures { λ r. ⌜ _≡_ {A = Outcome} (record { answer = r; store = now (store .exit); buffer = [] }) (giveVcpu small (now (store .entry)) guest vcpu (now (buffer .entry))) ⌝ }
+    ensures { λ r. ⌜ _≡_ {A = Outcome} (record { answer = r; store = now (store .exit); buffer = [] }) (giveVcpu (layoutOf (now (store .entry))) (now (store .entry)) guest vcpu (now (buffer .entry))) ⌝ }
 {
-    let l = small_layout();
-    match vcpu_slot(store, l, guest as usize, vcpu as usize) {
+    match vcpu_slot(store, guest as usize, vcpu as usize) {
         Slot::Refused(fault) => refusal(fault),
-        Slot::At(slot) => give_at(store, l, slot, vcpu, buffer),
+        Slot::At(slot) => {
+            let l = layout_of(store);
+            give_at(store, l, slot, vcpu, buffer)
+        }
     }
 }

@@ -5,7 +5,7 @@ mod single;
 
 use admission::Admission;
 use admission::Target;
-use admission::small_target;
+use admission::target_of;
 use answer::Answer;
 use answer::Fault;
 use answer::refusal;
@@ -20,10 +20,9 @@ use octets::get32;
 use rules::Context;
 use rules::Usage;
 pub use single::get_element;
-use store::Layout;
 use store::capabilities_of;
 use store::guest_at;
-use store::small_layout;
+use store::layout_of;
 use transfer::apply;
 use transfer::fill;
 ghost use mathlib.Core.Path.{_≡_};
@@ -31,7 +30,7 @@ ghost use mathlib.Core.List.{[]};
 ghost use Prim.Native.Nat.{_+_, _≤_};
 ghost use lib.ListN.{length};
 ghost use Rattle.rules.specs.declared.Usage.the-variants.{ThreadGet};
-ghost use Rattle.store.specs.Layout.{Sound, small};
+ghost use Rattle.store.specs.Layout.{layoutOf};
 ghost use Rattle.admission.specs.Refusals.{Outcome, hasBit0};
 ghost use Rattle.state.specs.State.{contextOf, supportedBits, setUse, setElements, setState, getUse, getElements, getState};
 ghost use Rattle.state.specs.Private.{bufferGood, setAt, getAt, bytesFor};
@@ -43,10 +42,11 @@ const BIT_0: u64 = 0x8000_0000_0000_0000;
 const BIT_1: u64 = 0x4000_0000_0000_0000;
 
 // What judging a buffer of a call on a live guest depends on. 0x0003, the PVR, stands first in a guest's values.
-pub fn context_of(store: &[u8], l: Layout, guest: usize, usage: Usage) -> Context
-    requires { ⌜ Sound l × (length (now store) ≡ l .size) × (1 ≤ guest) × (guest ≤ l .guests) ⌝ }
-    ensures { λ r. ⌜ r ≡ contextOf l (now (store .entry)) guest usage ⌝ }
+pub fn context_of(store: &[u8], guest: usize, usage: Usage) -> Context
+    requires { ⌜ (length (now store) ≡ layoutOf (now store) .size) × (1 ≤ guest) × (guest ≤ layoutOf (now store) .guests) ⌝ }
+    ensures { λ r. ⌜ r ≡ contextOf (layoutOf (now (store .entry))) (now (store .entry)) guest usage ⌝ }
 {
+    let l = layout_of(store);
     let pvr = get32(store, guest_at(l, guest));
     Context {
         usage,
@@ -107,16 +107,15 @@ fn set_at(store: &mut [u8], base: usize, k: Context, buffer: &[u8]) -> Answer
 }
 
 fn set_elements(store: &mut [u8], flags: u64, guest: u64, vcpu: u64, buffer: &[u8]) -> Answer
-    ensures { λ r. ⌜ _≡_ {A = Outcome} (record { answer = r; store = now (store .exit); buffer = [] }) (setElements small (now (store .entry)) flags guest vcpu (now (buffer .entry))) ⌝ }
+    ensures { λ r. ⌜ _≡_ {A = Outcome} (record { answer = r; store = now (store .exit); buffer = [] }) (setElements (layoutOf (now (store .entry))) (now (store .entry)) flags guest vcpu (now (buffer .entry))) ⌝ }
 {
-    let l = small_layout();
     let wide = is_wide(flags);
     let bits = supported_bits(wide);
-    let target = small_target(store, l, bits, flags, wide, guest as usize, vcpu as usize);
+    let target = target_of(store, bits, flags, wide, guest as usize, vcpu as usize);
     match target {
         Target::Refused(fault) => refusal(fault),
         Target::At(base) => {
-            let k = context_of(store, l, guest as usize, set_use(wide));
+            let k = context_of(store, guest as usize, set_use(wide));
             set_at(store, base, k, buffer)
         }
     }
@@ -124,7 +123,7 @@ fn set_elements(store: &mut [u8], flags: u64, guest: u64, vcpu: u64, buffer: &[u
 
 // H_GUEST_SET_STATE.
 pub fn set_state(store: &mut [u8], flags: u64, guest: u64, vcpu: u64, buffer: &[u8]) -> Answer
-    ensures { λ r. ⌜ _≡_ {A = Outcome} (record { answer = r; store = now (store .exit); buffer = [] }) (setState small (now (store .entry)) flags guest vcpu (now (buffer .entry))) ⌝ }
+    ensures { λ r. ⌜ _≡_ {A = Outcome} (record { answer = r; store = now (store .exit); buffer = [] }) (setState (layoutOf (now (store .entry))) (now (store .entry)) flags guest vcpu (now (buffer .entry))) ⌝ }
 {
     if flags == BIT_1 {
         return give_vcpu(store, guest, vcpu, buffer);
@@ -154,16 +153,15 @@ fn get_at(store: &[u8], base: usize, k: Context, buffer: &mut [u8]) -> Answer
 }
 
 fn get_elements(store: &[u8], flags: u64, guest: u64, vcpu: u64, buffer: &mut [u8]) -> Answer
-    ensures { λ r. ⌜ _≡_ {A = Outcome} (record { answer = r; store = now (store .entry); buffer = now (buffer .exit) }) (getElements small (now (store .entry)) flags guest vcpu (now (buffer .entry))) ⌝ }
+    ensures { λ r. ⌜ _≡_ {A = Outcome} (record { answer = r; store = now (store .entry); buffer = now (buffer .exit) }) (getElements (layoutOf (now (store .entry))) (now (store .entry)) flags guest vcpu (now (buffer .entry))) ⌝ }
 {
-    let l = small_layout();
     let wide = is_wide(flags);
     let bits = supported_bits(wide);
-    let target = small_target(store, l, bits, flags, wide, guest as usize, vcpu as usize);
+    let target = target_of(store, bits, flags, wide, guest as usize, vcpu as usize);
     match target {
         Target::Refused(fault) => refusal(fault),
         Target::At(base) => {
-            let k = context_of(store, l, guest as usize, get_use(wide));
+            let k = context_of(store, guest as usize, get_use(wide));
             get_at(store, base, k, buffer)
         }
     }
@@ -171,7 +169,7 @@ fn get_elements(store: &[u8], flags: u64, guest: u64, vcpu: u64, buffer: &mut [u
 
 // H_GUEST_GET_STATE. It writes the store where a vCPU is taken.
 pub fn get_state(store: &mut [u8], flags: u64, guest: u64, vcpu: u64, buffer: &mut [u8]) -> Answer
-    ensures { λ r. ⌜ _≡_ {A = Outcome} (record { answer = r; store = now (store .exit); buffer = now (buffer .exit) }) (getState small (now (store .entry)) flags guest vcpu (now (buffer .entry))) ⌝ }
+    ensures { λ r. ⌜ _≡_ {A = Outcome} (record { answer = r; store = now (store .exit); buffer = now (buffer .exit) }) (getState (layoutOf (now (store .entry))) (now (store .entry)) flags guest vcpu (now (buffer .entry))) ⌝ }
 {
     if flags == BIT_1 {
         return take_vcpu(store, guest, vcpu, buffer);

@@ -1,7 +1,7 @@
 // Get state with a buffer of one element, for the L1 cache.
 use super::context_of;
 use admission::Target;
-use admission::small_target;
+use admission::target_of;
 use answer::Answer;
 use answer::Bad;
 use answer::Fault;
@@ -14,7 +14,6 @@ use elements::thread_element;
 use octets::copy;
 use rules::Context;
 use rules::Usage;
-use store::small_layout;
 ghost use mathlib.Core.Path.{_≡_};
 ghost use mathlib.Core.Bool.{true};
 ghost use mathlib.Core.List.{[], _∷_};
@@ -26,7 +25,7 @@ ghost use Rattle.rules.specs.declared.Usage.the-variants.{ThreadGet};
 ghost use Rattle.elements.specs.Table.{kindOf, numberOf, threadElement};
 ghost use Rattle.rules.specs.Rules.{permits};
 ghost use Rattle.gsb.specs.Message.{message};
-ghost use Rattle.store.specs.Layout.{slotBytes};
+ghost use Rattle.store.specs.Layout.{layoutOf, slotBytes};
 ghost use Rattle.state.specs.State.{gotElement};
 ghost use Rattle.state.specs.Private.{getAt};
 
@@ -58,15 +57,14 @@ fn get_one(store: &[u8], base: usize, k: Context, id: u16, value: &mut [u8]) -> 
 // H_GUEST_GET_STATE with a buffer of one element, for the L1 cache.
 pub fn get_element(store: &[u8], guest: u64, vcpu: u64, id: u16, value: &mut [u8]) -> Answer
     requires { ⌜ (permits (record { usage = ThreadGet; capabilities = 0; offer = Full }) id (kindOf id) ≡ true) × (0 < id) × (length (now value) ≡ threadElement (numberOf id) .size) ⌝ }
-    ensures { λ r. ⌜ r ≡ gotElement (now (store .entry)) guest vcpu id (now (value .entry)) .answer ⌝ }
-    ensures { λ r. ⌜ now (value .exit) ≡ bytesAt (gotElement (now (store .entry)) guest vcpu id (now (value .entry)) .buffer) 8 (length (now (value .entry))) ⌝ }
+    ensures { λ r. ⌜ r ≡ gotElement (layoutOf (now (store .entry))) (now (store .entry)) guest vcpu id (now (value .entry)) .answer ⌝ }
+    ensures { λ r. ⌜ now (value .exit) ≡ bytesAt (gotElement (layoutOf (now (store .entry))) (now (store .entry)) guest vcpu id (now (value .entry)) .buffer) 8 (length (now (value .entry))) ⌝ }
 {
-    let l = small_layout();
-    let target = small_target(store, l, BIT_1, 0, false, guest as usize, vcpu as usize);
+    let target = target_of(store, BIT_1, 0, false, guest as usize, vcpu as usize);
     match target {
         Target::Refused(fault) => refusal(fault),
         Target::At(base) => {
-            let k = context_of(store, l, guest as usize, Usage::ThreadGet);
+            let k = context_of(store, guest as usize, Usage::ThreadGet);
             get_one(store, base, k, id, value)
         }
     }

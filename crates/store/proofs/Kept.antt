@@ -185,6 +185,11 @@ module _ (l : Layout) (so : Sound l) (h : List ℕ) where
       ap (outside offered) (caps-said c full) ∙ sym (and-mod c (2 ^ 64 - 1 - offered) 64) ∙ ap (λ (x : ℕ). x % 2 ^ 64) ok in
       simp (eq-eqb _ _ q) (ap (λ (x : ℕ). eqb x 0) (caps-bits c (64 + l .guests) (l .zeros) (omega arith)) ∙ p .1)
 
+-- the word of a guest's vCPU is one of the layout
+pub vcpu-word : (l : Layout) → Sound l → (g v : ℕ) → g ≤ l .guests → v < 2048 → wordOf l g v < 4096 * l .ids
+unfolding wordOf
+vcpu-word l so g v hi hv = omega (arith, so .nameable)
+
 -- ---- create guest
 module _ (l : Layout) (so : Sound l) (s : List ℕ) (good : wellFormed l s ≡ true) where
   f : Formed l s
@@ -235,8 +240,7 @@ module _ (l : Layout) (so : Sound l) (s : List ℕ) (good : wellFormed l s ≡ t
   -- ---- create vCPU: a free slot for a live guest's vCPU that is not there yet
   module _ (g v : ℕ) (lv : live l (header l s) g ≡ true) (hv : v < 2048) where
     new-small : wordOf l g v < 4096 * l .ids
-    unfolding wordOf
-    new-small = let p = live-parts l (header l s) g lv in omega (arith, p .1, so .nameable)
+    new-small = vcpu-word l so g v (live-parts l (header l s) g lv .1) hv
 
     new-used : l .ids * 2048 ≤ wordOf l g v
     unfolding wordOf
@@ -478,7 +482,7 @@ module _ (l : Layout) (so : Sound l) (s : List ℕ) (good : wellFormed l s ≡ t
     pub deleted-mark : (a : ℕ) → a < l .slots → guestOf l (word l (header l s) a) ≢ g → isTaken l (header l (withoutGuest l s g)) a ≡ isTaken l (header l s) a
     deleted-mark a la n = let r = drop-less g (l .slots) (omega arith) in left-mark r a ∙ r .marks a la n
 
-  vcpu-header : (j : ℕ) → j < l .slots → (g v : ℕ) → header l (withVcpu l s j g v) ≡ putSlot l (header l s) j (wordOf l g v)
+  pub vcpu-header : (j : ℕ) → j < l .slots → (g v : ℕ) → header l (withVcpu l s j g v) ≡ putSlot l (header l s) j (wordOf l g v)
   unfolding withVcpu
   vcpu-header j hj g v =
       header-values l so (putSlot l s j (wordOf l g v)) (slotAt l j) (zeros slotBytes) (omega (arith, so .guests-fit)) ∙ header-slot l so s j (wordOf l g v) hj

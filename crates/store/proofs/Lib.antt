@@ -5,9 +5,15 @@ pub mod Tests
 pub mod Writes
 pub mod WordFields
 pub mod Marks
-pub mod Small
+pub mod Sizes
+pub mod Noted
+pub mod Filtered
 pub mod Frame
 pub mod Beside
 pub mod Again
 pub mod Kept
 pub mod Counted
+pub mod Edited
+pub mod Recoded
+pub mod Converting
+pub mod Fresh

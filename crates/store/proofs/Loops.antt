@@ -5,6 +5,7 @@ use mathlib.Core.List.{List}
 use Prim.Native.Nat.{ℕ, suc, _+_, _-_, _≤_, _<_}
 use native.Mathlib.Numerals.{add-one}
 use native.Mathlib.Omega.{arith}
+use lib.Dec.{eqb}
 use borrow.Author.Tests.{eq-eqb, ne-eqb, not-true, not-false}
 use Rattle.store.specs.declared.Layout.{Layout}
 use Rattle.store.specs.Search.{every, first, tally}
@@ -53,6 +54,14 @@ module _ (l : Layout) (s : List ℕ) (w : ℕ) where
 
     pub find-miss : (x : Bool) → i < l .slots → x ≡ holds l s w i → x ≡ false → f ≡ first (holds l s w) (l .slots - (i + 1)) (i + 1)
     find-miss x k e q = h ∙ first-past (holds l s w) (l .slots) i k (sym e ∙ q)
+
+    pub find-told : (x : ℕ) → i < l .slots → x ≡ word l s i → x ≡ w → i ≡ f
+    unfolding holds
+    find-told x k e q = find-hit (eqb x w) k (ap (λ (y : ℕ). eqb y w) e) (eq-eqb _ _ q)
+
+    pub find-past : (x : ℕ) → i < l .slots → x ≡ word l s i → (x ≡ w → ⊥) → f ≡ first (holds l s w) (l .slots - (i + 1)) (i + 1)
+    unfolding holds
+    find-past x k e q = find-miss (eqb x w) k (ap (λ (y : ℕ). eqb y w) e) (ne-eqb _ _ q)
 
     pub find-end : l .slots ≤ i → i ≡ f
     find-end k = sym (h ∙ first-end (holds l s w) (l .slots) i k)

@@ -7,6 +7,8 @@ use Prim.Native.Nat.{ℕ, _+_, _-_, _*_, _/_, _%_, _^_, _≤_, _<_}
 use native.Mathlib.Omega.{arith}
 use native.Mathlib.Nat.{mul-le-mul, mul-le-mul-left, mul-suc, mod-eq-of-lt, pow-le-pow-right, one-le-pow, mul-div-mul-right}
 use native.Mathlib.Decide.{ℕ-discrete}
+use mir.Syntax.{w8, w64}
+use mir.Val.{Fits}
 use lib.Dec.{eqb}
 use lib.ListN.{getD}
 use lib.Pow.{split, pow-add}
@@ -16,7 +18,7 @@ use Rattle.octets.specs.Bits.{bit, bits}
 use Rattle.octets.specs.Private.{swap2}
 use Rattle.octets.proofs.Numbers.{be-part}
 use Rattle.octets.proofs.Swaps.{swap2-same}
-use Rattle.octets.proofs.Bits.{bits-byte, bits-be, bit-front, bits-front}
+use Rattle.octets.proofs.Bits.{bits-lt, bits-byte, bits-be, bit-front, bits-front}
 use Rattle.store.specs.declared.Layout.{Layout}
 use Rattle.store.specs.Layout.{Sound}
 use Rattle.store.specs.Header.{header, outside, offered, capabilitiesOf, live, wordAt, word, isTaken, holds, headGood}
@@ -46,26 +48,58 @@ module _ (l : Layout) (h : Sound l) (s : List ℕ) where
   unfolding capabilitiesOf header
   caps-read x e = e ∙ sym (be-part s 0 (l .«guests_at») 0 8 (omega (arith, h .head, h .words)))
 
-  pub word-read : (i x : ℕ) → i < l .slots → ((k : ℕ) → getD s k 0 < 256) → x ≡ be s (l .«words_at» + 2 * i) 2 → x ≡ word l (header l s) i
+  -- ---- a slot word. The one step that is not linear: it ends before the values.
+  pub word-inside : (i : ℕ) → i < l .slots → wordAt l i + l .width ≤ 8 * l .«guests_at»
+  word-inside i k = omega (arith, step (l .width) i (l .slots) k, h .words)
+
+  -- four bytes from its first one on are in the store, though not all in the header
+  pub word-room : (i n : ℕ) → i < l .slots → n ≡ l .size → wordAt l i / 8 + 4 ≤ n
+  word-room i n k e = omega (arith, word-inside i k, h .guests-fit, h .whole)
+
+  -- its place is a small number
+  pub times-fits : (i : ℕ) → i < l .slots → Fits w64 (l .width * i)
+  times-fits i k = omega (arith, word-inside i k, h .guests-fit, h .whole, h .small-size)
+
+  pub place-fits : (i : ℕ) → i < l .slots → Fits w64 (wordAt l i)
+  place-fits i k = omega (arith, word-inside i k, h .guests-fit, h .whole, h .small-size)
+
+  pub word-read : (i x : ℕ) → i < l .slots → x ≡ bits s (wordAt l i) (l .width) → x ≡ word l (header l s) i
   unfolding word header
-  word-read i x k b e =
-      let p : wordAt l i + l .width ≤ 8 * l .«guests_at» = omega (arith, step (l .width) i (l .slots) k, h .words) in
-      let a : 8 * l .«words_at» + 16 * i ≡ 8 * (l .«words_at» + 2 * i) = omega arith in
-      sym (bits-front s (l .«guests_at») (wordAt l i) (l .width) p
-      ∙ ap (λ (n : ℕ). bits s (8 * l .«words_at» + n * i) n) (h .two-bytes)
-      ∙ ap (λ (n : ℕ). bits s n 16) a ∙ bits-be s (l .«words_at» + 2 * i) 2 (λ j m. b (l .«words_at» + 2 * i + j)) ∙ sym e)
+  word-read i x k e = e ∙ sym (bits-front s (l .«guests_at») (wordAt l i) (l .width) (word-inside i k))
 
-  pub word-inside : (i : ℕ) → i < l .slots → l .«words_at» + 2 * i + 2 ≤ l .«guests_at»
-  word-inside i k =
-      let e : l .width * l .slots ≡ 16 * l .slots = ap (λ (n : ℕ). n * l .slots) (h .two-bytes) in
-      omega (arith, h .words)
+  pub word-lt : (i x : ℕ) → x ≡ bits s (wordAt l i) (l .width) → x < 4096 * l .ids
+  word-lt i x e = omega (arith, bits-lt s (wordAt l i) (l .width), h .digits)
 
-  -- the word as the machine reads it, against another
-  pub word-told : (i w x p : ℕ) → i < l .slots → ((k : ℕ) → getD s k 0 < 256) → x ≡ swap2 (be s (l .«words_at» + 2 * i) 2)
-      → be s (l .«words_at» + 2 * i) 2 < 2 ^ 16 → w < 2 ^ 16 → p ≡ swap2 w → eqb x p ≡ holds l (header l s) w i
-  unfolding holds
-  word-told i w x p k b e m n q =
-      swap2-same (be s (l .«words_at» + 2 * i) 2) w x p e m q n ∙ ap (λ (y : ℕ). eqb y w) (word-read i (be s (l .«words_at» + 2 * i) 2) k b refl)
+  -- as two bytes
+  module _ (two : l .width ≡ 16) where
+    pub pair-inside : (i : ℕ) → i < l .slots → l .«words_at» + 2 * i + 2 ≤ l .«guests_at»
+    pair-inside i k =
+        let e : l .width * l .slots ≡ 16 * l .slots = ap (λ (n : ℕ). n * l .slots) two in
+        omega (arith, h .words)
+
+    pub pair-room : (i n : ℕ) → i < l .slots → n ≡ l .size → l .«words_at» + 2 * i + 2 ≤ n
+    pair-room i n k e = omega (arith, pair-inside i k, h .guests-fit, h .whole)
+
+    module _ (b : (k : ℕ) → Fits w8 (getD s k 0)) (i x : ℕ) (k : i < l .slots) (e : x ≡ be s (l .«words_at» + 2 * i) 2) where
+      pair-bits : x ≡ bits s (wordAt l i) (l .width)
+      pair-bits =
+          let a : 8 * l .«words_at» + 16 * i ≡ 8 * (l .«words_at» + 2 * i) = omega arith in
+          e ∙ sym (ap (λ (n : ℕ). bits s (8 * l .«words_at» + n * i) n) two
+          ∙ ap (λ (n : ℕ). bits s n 16) a ∙ bits-be s (l .«words_at» + 2 * i) 2 (λ j m. b (l .«words_at» + 2 * i + j) .fits))
+
+      pub pair-read : x ≡ word l (header l s) i
+      pair-read = word-read i x k pair-bits
+
+      pub pair-lt : x < 4096 * l .ids
+      pair-lt = word-lt i x pair-bits
+
+    -- the word as the machine reads it, against another
+    pub pair-told : ((k : ℕ) → Fits w8 (getD s k 0)) → (i w x p : ℕ) → i < l .slots → (x ≡ swap2 (be s (l .«words_at» + 2 * i) 2)) × (be s (l .«words_at» + 2 * i) 2 < 2 ^ 16) → w < 2 ^ 16 → p ≡ swap2 w
+        → eqb x p ≡ holds l (header l s) w i
+    unfolding holds
+    pair-told b i w x p k e n q =
+        let y = be s (l .«words_at» + 2 * i) 2 in
+        swap2-same y w x p (e .0) (e .1) q n ∙ ap (λ (z : ℕ). eqb z w) (pair-read b i y k refl)
 
   -- ---- live
   module _ (g : ℕ) where

@@ -35,6 +35,19 @@ unfolding every
 every-ext p q zero i h = refl
 every-ext p q (suc n) i h = ap₂ _&&_ (h i (omega arith) (omega arith)) (every-ext p q n (i + 1) (λ k a b. h k (omega arith) (omega arith)))
 
+-- over more numbers, of which the further ones have q
+pub every-more : (p q : ℕ → Bool) (n k i : ℕ) → n ≤ k → ((a : ℕ) → i ≤ a → a < i + n → q a ≡ p a) → ((a : ℕ) → i + n ≤ a → q a ≡ true) → every q k i ≡ every p n i
+every-more p q n k i h same more = go (every p n i) (every q k i) refl refl
+  where
+    at : every p n i ≡ true → (a : ℕ) → i ≤ a → Dec (a < i + n) → q a ≡ true
+    at e a x (yes y) = same a x y ∙ every-at p n i e a x y
+    at e a x (no y) = more a (omega arith)
+
+    go : (b c : Bool) → every p n i ≡ b → every q k i ≡ c → every q k i ≡ every p n i
+    go true c e f = every-all q k i (λ a x y. at e a x (decLt a (i + n))) ∙ sym e
+    go false false e f = f ∙ sym e
+    go false true e f = f ∙ sym (every-all p n i (λ a x y. sym (same a x y) ∙ every-at q k i f a x (omega arith)))
+
 -- ---- first
 pub first-bounds : (p : ℕ → Bool) (n i : ℕ) → (i ≤ first p n i) × (first p n i ≤ i + n)
 unfolding first
@@ -82,6 +95,17 @@ found-first p (suc n) i j f = go (ℕ-discrete i j) (found-first p n (i + 1) j)
     go (yes e) ih = rw (ap p e ∙ f .has) e
     go (no m) ih = rw (f .none i (omega arith) (omega (arith, f .above)))
         (ih (record { has = f .has; above = omega (arith, f .above); below = omega (arith, f .below); none = λ k a b. f .none k (omega arith) b }))
+
+-- over more numbers: where there is one among the first n, it is the same
+pub first-more : (p q : ℕ → Bool) (n k i : ℕ) → n ≤ k → ((a : ℕ) → i ≤ a → a < i + n → q a ≡ p a) → first p n i < i + n → first q k i ≡ first p n i
+first-more p q n k i h same lt =
+    let f = first-found p n i lt in
+    found-first q k i (first p n i) (record {
+      has = same (first p n i) (f .above) (f .below) ∙ f .has;
+      above = f .above;
+      below = omega (arith, f .below, h);
+      none = λ a x y. same a x (omega (arith, f .below)) ∙ f .none a x y;
+    })
 
 pub first-none : (p : ℕ → Bool) (n i : ℕ) → i + n ≤ first p n i → (k : ℕ) → i ≤ k → k < i + n → p k ≡ false
 unfolding first

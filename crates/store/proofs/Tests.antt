@@ -1,18 +1,18 @@
 -- The tests of the definitions, in the form of the code's needs. Assumes nothing.
-use mathlib.Core.Path.{_≡_, sym, ap, _∙_}
+use mathlib.Core.Path.{_≡_, refl, sym, ap, _∙_}
 use mathlib.Core.Bool.{Bool, true, false, not, _&&_, cond}
 use mathlib.Core.List.{List}
-use Prim.Native.Nat.{ℕ, _+_, _-_, _*_, _/_, _^_, _≤_, _<_}
+use Prim.Native.Nat.{ℕ, _+_, _-_, _*_, _/_, _≤_, _<_}
 use native.Mathlib.Omega.{arith}
 use lib.Dec.{eqb}
 use lib.ListN.{length}
-use borrow.Author.Tests.{eq-eqb, ne-eqb, le-leb, lt-leb, lt-ltb, le-ltb, leb-true, not-true, not-false}
+use borrow.Author.Tests.{eq-eqb, ne-eqb, eqb-true, le-leb, lt-leb, lt-ltb, le-ltb, leb-true, not-true, not-false}
 use Rattle.store.specs.declared.Layout.{Layout}
 use Rattle.store.specs.Layout.{Sound}
 use Rattle.store.specs.Header.{header, live, word, wordOf, isUsed, guestOf, isTaken, headGood, wordsGood, slotHolding, slotOf, freeSlot}
-use Rattle.store.specs.Private.{timesOf, slotCounted}
+use Rattle.store.specs.Private.{timesOf, slotCounted, headFormed}
 use Rattle.store.specs.Store.{wellFormed}
-use Rattle.store.proofs.Search.{both}
+use Rattle.store.proofs.Search.{no-bool, both}
 
 -- ---- a slot
 module _ (l : Layout) (s : List ℕ) (a w : ℕ) (e : w ≡ word l s a) where
@@ -67,10 +67,8 @@ pub live-small : (l : Layout) (s : List ℕ) (g : ℕ) (x : Bool) → Sound l �
 live-small l s g x h e q = let p = live-parts l s g (sym e ∙ not-false x q) in omega (arith, p .1, h .nameable)
 
 -- and its vCPU's word is one
-pub word-small : (l : Layout) (s : List ℕ) (g v : ℕ) (x : Bool) → Sound l → x ≡ live l s g → not x ≡ false → v < 2048
-    → (l .ids + g) * 2048 + v < 2 ^ 16
-word-small l s g v x h e q k =
-    omega (arith, live-small l s g x h e q, sym (h .digits) ∙ ap (λ (n : ℕ). 2 ^ n) (h .two-bytes))
+pub word-small : (l : Layout) (s : List ℕ) (g v : ℕ) (x : Bool) → Sound l → x ≡ live l s g → not x ≡ false → v < 2048 → (l .ids + g) * 2048 + v < 4096 * l .ids
+word-small l s g v x h e q k = omega (arith, live-small l s g x h e q)
 
 pub free-is : (l : Layout) (s : List ℕ) (r : ℕ) → r ≡ slotHolding l s 0 → r ≡ freeSlot l s
 unfolding freeSlot
@@ -78,15 +76,35 @@ free-is l s r e = e
 
 -- ---- the whole
 module _ (l : Layout) (s : List ℕ) where
-  pub wf-long : (length s ≡ l .size → ⊥) → false ≡ wellFormed l s
-  unfolding wellFormed
-  wf-long n = simp (ne-eqb _ _ n)
+  pub head-long : (length s ≡ l .size → ⊥) → false ≡ headFormed l s
+  unfolding headFormed
+  head-long n = simp (ne-eqb _ _ n)
 
-  module _ (e : length s ≡ l .size) (x : Bool) (q : x ≡ headGood l (header l s)) where
-    pub wf-head : not x ≡ true → false ≡ wellFormed l s
-    unfolding wellFormed
-    wf-head f = simp (eq-eqb _ _ e, sym q ∙ not-true x f)
+  pub head-told : (x : Bool) → length s ≡ l .size → x ≡ headGood l (header l s) → x ≡ headFormed l s
+  unfolding headFormed
+  head-told x e q = q ∙ sym (simp (eq-eqb _ _ e))
 
-    pub wf-words : (y : Bool) → not x ≡ false → y ≡ wordsGood l (header l s) → y ≡ wellFormed l s
-    unfolding wellFormed
-    wf-words y f r = r ∙ sym (simp (eq-eqb _ _ e, sym q ∙ not-false x f))
+  module _ (x : Bool) (q : x ≡ headFormed l s) where
+    head-parts : headFormed l s ≡ true → (length s ≡ l .size) × (headGood l (header l s) ≡ true)
+    unfolding headFormed
+    head-parts h = let p = both _ _ h in (eqb-true _ _ (p .0), p .1)
+
+    pub head-size : not x ≡ false → length s ≡ l .size
+    head-size f = head-parts (sym q ∙ not-false x f) .0
+
+    -- in the layout m, which is l
+    module _ (m : Layout) (e : l ≡ m) where
+      pub wf-head : not x ≡ true → false ≡ wellFormed m s
+      unfolding wellFormed headFormed
+      wf-head f = sym (ap (λ (k : Layout). wellFormed k s) (sym e) ∙ none (eqb (length s) (l .size)) (headGood l (header l s)) (wordsGood l (header l s)) (sym q ∙ not-true x f))
+        where
+          none : (a b c : Bool) → (a && b) ≡ false → (a && (b && c)) ≡ false
+          none true true c h = absurd (no-bool (sym h))
+          none true false c h = refl
+          none false b c h = refl
+
+      pub wf-words : (y : Bool) → not x ≡ false → y ≡ wordsGood l (header l s) → y ≡ wellFormed m s
+      unfolding wellFormed
+      wf-words y f r =
+          let p = head-parts (sym q ∙ not-false x f) in
+          r ∙ sym (ap (λ (k : Layout). wellFormed k s) (sym e) ∙ simp (eq-eqb _ _ (p .0), p .1))

@@ -4,6 +4,8 @@ use mathlib.Core.List.{List}
 use Prim.Native.Nat.{ℕ, zero, suc, _+_, _-_, _*_, _/_, _%_, _^_, _≤_, _<_}
 use native.Mathlib.Omega.{arith}
 use native.Mathlib.Numerals.{add-one}
+use mir.Syntax.{w8}
+use mir.Val.{Fits}
 use lib.ListN.{length, getD, set}
 use borrow.Author.Tests.{eq-eqb, ne-eqb}
 use Rattle.octets.specs.Bytes.{put, digits, zeros}
@@ -11,26 +13,34 @@ use Rattle.octets.specs.Bits.{ins, setBit, putBits}
 use Rattle.octets.proofs.Bits.{put-bytes}
 use Rattle.store.specs.declared.Layout.{Layout}
 use Rattle.store.specs.Layout.{Sound, guestBytes, slotBytes, guestAt, slotAt}
-use Rattle.store.specs.Header.{header, word, wordOf, guestOf}
+use Rattle.store.specs.Header.{header, wordAt, word, wordOf, guestOf}
 use Rattle.store.specs.Store.{putCapabilities, putLive, putWord, putTaken, putSlot, withGuest, withVcpu, dropWord, dropWords, withoutGuest, noWords, noGuests, withoutGuests}
-use Rattle.store.proofs.Readings.{word-inside}
+use Rattle.store.proofs.Readings.{pair-inside}
 
 pub caps-put : (s t : List ℕ) (c : ℕ) → t ≡ put s 0 (digits 8 c) → t ≡ putCapabilities s c
 unfolding putCapabilities
 caps-put s t c e = e
 
-pub word-put : (l : Layout) → Sound l → (s t : List ℕ) (i w : ℕ) → length s ≡ l .size → i < l .slots → ((k : ℕ) → getD s k 0 < 256)
+pub word-put : (l : Layout) (s t : List ℕ) (i w : ℕ) → t ≡ putBits s (wordAt l i) (l .width) w → t ≡ putWord l s i w
+unfolding putWord
+word-put l s t i w e = e
+
+-- as two bytes
+pub pair-put : (l : Layout) → Sound l → l .width ≡ 16 → (s t : List ℕ) (i w : ℕ) → length s ≡ l .size → i < l .slots → ((k : ℕ) → Fits w8 (getD s k 0))
     → t ≡ put s (l .«words_at» + 2 * i) (digits 2 w) → t ≡ putWord l s i w
 unfolding putWord
-word-put l h s t i w long k b e =
+pair-put l h two s t i w long k b e =
     let a : 8 * l .«words_at» + 16 * i ≡ 8 * (l .«words_at» + 2 * i) = omega arith in
-    let r : l .«words_at» + 2 * i + 2 ≤ length s = omega (arith, word-inside l h s i k, h .guests-fit, h .whole) in
-    e ∙ sym (ap (λ (n : ℕ). putBits s (8 * l .«words_at» + n * i) n w) (h .two-bytes) ∙ ap (λ (n : ℕ). putBits s n 16 w) a
-    ∙ put-bytes s (l .«words_at» + 2 * i) 2 w r (λ j m. b (l .«words_at» + 2 * i + j)))
+    let r : l .«words_at» + 2 * i + 2 ≤ length s = omega (arith, pair-inside l h s two i k, h .guests-fit, h .whole) in
+    e ∙ sym (ap (λ (n : ℕ). putBits s (8 * l .«words_at» + n * i) n w) two ∙ ap (λ (n : ℕ). putBits s n 16 w) a
+    ∙ put-bytes s (l .«words_at» + 2 * i) 2 w r (λ j m. b (l .«words_at» + 2 * i + j) .fits))
 
--- a slot word has two bytes
-pub word-fits : (l : Layout) (w : ℕ) → Sound l → w < 4096 * l .ids → w < 2 ^ 16
-word-fits l w h k = omega (arith, sym (h .digits) ∙ ap (λ (n : ℕ). 2 ^ n) (h .two-bytes))
+pub pair-fits : (l : Layout) (w : ℕ) → Sound l → l .width ≡ 16 → w < 4096 * l .ids → w < 2 ^ 16
+pair-fits l w h two k = omega (arith, sym (h .digits) ∙ ap (λ (n : ℕ). 2 ^ n) two)
+
+-- a word has the layout's digits
+pub word-fits : (l : Layout) (w : ℕ) → Sound l → w < 4096 * l .ids → w < 2 ^ l .width
+word-fits l w h k = omega (arith, h .digits)
 
 -- ---- a live bit or a mark: the three parts of its byte, and that they make one
 pub record Parts (x k b : ℕ) : Type 0 where

@@ -1,7 +1,12 @@
--- 01, "The store": where its parts lie. Definitions and laws take a layout; only this file and the code's `small_layout` name its numbers.
+-- 01, "The store", and 02, L6: where its parts lie, at both sizes. Definitions and laws take a layout; only this file and the code's
+-- `small_layout` and `large_layout` name its numbers.
 use Prim.Native.Nat.{ℕ, _+_, _-_, _*_, _^_, _%_, _≤_, _<_}
 use mathlib.Core.Path.{_≡_}
 use mathlib.Core.Logic.{_⊎_}
+use mathlib.Core.Bool.{cond}
+use mathlib.Core.List.{List}
+use lib.Dec.{eqb}
+use lib.ListN.{length}
 use Rattle.store.specs.declared.Layout.{Layout}
 
 -- "52 bytes per guest", "1,820 bytes per slot"
@@ -17,6 +22,16 @@ slotBytes = 1820
 -- `ids` is how many guest ids a slot word can name.
 abbrev pub small : Layout
 small = record { guests = 8; zeros = 8; slots = 16; ids = 16; width = 16; «words_at» = 10; «taken_at» = 42; «guests_at» = 44; «slots_at» = 460; size = 29580 }
+
+-- 02, L6: "The large store's slot word is 18 bits, still most significant first: used (1), guest id (6), vCPU id (11); 64 of them fill 144
+-- bytes. The large store is: capabilities 8 bytes, live guests 8 (guest 1 first, last bit zero), taken marks 8, slot words 144, then 52 bytes
+-- per guest and 1,820 per slot: 119,924 bytes."
+abbrev pub large : Layout
+large = record { guests = 63; zeros = 1; slots = 64; ids = 64; width = 18; «words_at» = 24; «taken_at» = 16; «guests_at» = 168; «slots_at» = 3444; size = 119924 }
+
+-- "Both sizes stay in use and are told apart by length." A store of any other length is no small one either: 1.
+unfoldable pub layoutOf : List ℕ → Layout
+layoutOf s = cond (eqb (length s) (large .size)) large small
 
 -- where the values of guest g, counted from 1, and of slot j, counted from 0, start
 abbrev pub guestAt : Layout → ℕ → ℕ
@@ -43,5 +58,6 @@ pub record Sound (l : Layout) : Type 0 where
   pub marks : 8 * l .«taken_at» + l .slots ≤ 8 * l .«guests_at»
   -- the marks lie before the slot words or behind them
   pub marks-apart : (8 * l .«taken_at» + l .slots ≤ 8 * l .«words_at») ⊎ (8 * l .«words_at» + l .width * l .slots ≤ 8 * l .«taken_at»)
-  -- only the reader and the writer of a slot word use this one
-  pub two-bytes : l .width ≡ 16
+  -- a slot word is read and written within four bytes
+  pub some-width : 1 ≤ l .width
+  pub few-digits : l .width ≤ 25

@@ -2,4 +2,6 @@ pub mod Layout
 pub mod Search
 pub mod Header
 pub mod Store
+pub mod Conversion
 pub mod Private
+pub mod Filter

@@ -3,9 +3,10 @@ use Prim.Native.Nat.{ℕ}
 use mathlib.Core.Bool.{Bool, not, _&&_, cond}
 use mathlib.Core.List.{List}
 use lib.Dec.{eqb}
+use lib.ListN.{length}
 use Rattle.store.specs.declared.Layout.{Layout}
 use Rattle.store.specs.Search.{tally}
-use Rattle.store.specs.Header.{live, word, isUsed, guestOf, isTaken, holds}
+use Rattle.store.specs.Header.{header, live, word, isUsed, guestOf, isTaken, holds, headGood}
 
 -- how many slots hold the word w
 abbrev pub timesOf : Layout → List ℕ → ℕ → ℕ
@@ -16,3 +17,7 @@ unfoldable pub slotCounted : Layout → List ℕ → ℕ → Bool
 slotCounted l h a =
     cond (eqb (word l h a) 0) (not (isTaken l h a))
     (isUsed l (word l h a) && (live l h (guestOf l (word l h a)) && eqb (timesOf l h (word l h a)) 1))
+
+-- the tests of a store that come before those of its slot words
+unfoldable pub headFormed : Layout → List ℕ → Bool
+headFormed l s = eqb (length s) (l .size) && headGood l (header l s)

@@ -1,5 +1,6 @@
 // The fields of a store's header written: capabilities, live bits, slot words, taken marks. `header` reads them.
 use super::Layout;
+use octets::put_bits;
 use octets::put16;
 use octets::put64;
 use octets::wide;
@@ -41,7 +42,11 @@ pub fn put_word(s: &mut [u8], l: Layout, i: usize, w: usize)
     requires { ⌜ Sound l × (length (now s) ≡ l .size) × (i < l .slots) × (w < 4096 * l .ids) ⌝ }
     ensures { λ _. ⌜ now (s .exit) ≡ putWord l (now (s .entry)) i w ⌝ }
 {
-    put16(s, l.words_at + 2 * i, w as u16);
+    if l.width == 16 {
+        put16(s, l.words_at + 2 * i, w as u16);
+        return;
+    }
+    put_bits(s, 8 * l.words_at + l.width * i, l.width, w as u64);
 }
 
 pub fn set_taken(s: &mut [u8], l: Layout, a: usize, b: u64)

@@ -1,12 +1,15 @@
-// The lent store: its layout, and where a guest's and a slot's values start. `header`, `slots` and `formed` read its header, `fields`,
-// `update` and `removal` change it; what they all mean is defined here.
+// The lent store: its layouts, and where a guest's and a slot's values start. `header`, `slots`, `formed` and `filter` read its header,
+// `fields`, `update` and `removal` change it, `conversion` writes it as one of another size; what they all mean is defined here.
+mod conversion;
 mod fields;
+mod filter;
 mod formed;
 mod header;
 mod removal;
 mod slots;
 mod update;
 
+pub use conversion::converted;
 pub use fields::put_capabilities;
 pub use fields::set_taken;
 pub use formed::well_formed;
@@ -23,7 +26,7 @@ pub use update::with_guest;
 pub use update::with_vcpu;
 ghost use mathlib.Core.Path.{_≡_};
 ghost use Prim.Native.Nat.{_+_, _≤_, _<_, _*_};
-ghost use Rattle.store.specs.Layout.{Sound, small, guestAt, slotAt, guestBytes, slotBytes};
+ghost use Rattle.store.specs.Layout.{Sound, small, large, layoutOf, guestAt, slotAt, guestBytes, slotBytes};
 
 // Numbers of guests and slots, and where slot words, taken marks, guests' values and slots' values start. `zeros` is how many zero bits
 // follow the live bits, `ids` how many guest ids a slot word of `width` bits can name.
@@ -56,6 +59,34 @@ pub fn small_layout() -> Layout
         slots_at: 460,
         size: 29580,
     }
+}
+
+// Request L6: 63 guests and 64 slots in 119,924 bytes.
+pub fn large_layout() -> Layout
+    ensures { λ r. ⌜ r ≡ large ⌝ }
+{
+    Layout {
+        guests: 63,
+        zeros: 1,
+        slots: 64,
+        ids: 64,
+        width: 18,
+        words_at: 24,
+        taken_at: 16,
+        guests_at: 168,
+        slots_at: 3444,
+        size: 119924,
+    }
+}
+
+// The two sizes are told apart by length; any other length is that of no store.
+pub fn layout_of(s: &[u8]) -> Layout
+    ensures { λ r. ⌜ r ≡ layoutOf (now (s .entry)) ⌝ }
+{
+    if s.len() == 119924 {
+        return large_layout();
+    }
+    small_layout()
 }
 
 pub fn guest_at(l: Layout, g: usize) -> usize

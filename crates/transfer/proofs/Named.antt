@@ -10,6 +10,7 @@ use Rattle.octets.specs.Bytes.{bytesAt, put, Clear, left, right}
 use Rattle.octets.proofs.Bytes.{length-bytesAt, part-ext, getD-put-other}
 use Rattle.elements.specs.declared.Source.{Source}
 use Rattle.elements.specs.declared.Source.the-variants.{Fixed, Stored}
+use Rattle.elements.specs.declared.Entry.{Entry}
 use Rattle.elements.specs.declared.Kind.{Kind}
 use Rattle.elements.specs.declared.Kind.the-variants.{Unlisted, Nop, Listed}
 use Rattle.rules.specs.declared.Context.{Context}
@@ -26,10 +27,21 @@ use Rattle.transfer.specs.Transfer.{valueAt, putFrom, putAs, applied, re
 use Rattle.transfer.specs.Named.{Named, ValueByte}
 use Rattle.transfer.proofs.Moving.{length-read, length-applied}
 
-module _ (k : Context) (base : ℕ) (b : List ℕ) (d : firstBad k b ≡ Done) where
-  good : (i : ℕ) → i < countOf b → GoodElement k b (offsetAt b i)
-  good i l = good-element k b (offsetAt b i) (offsetAt b (i + 1)) (all-good k b .0 d i l) .0
+module _ (k : Context) (b : List ℕ) (d : firstBad k b ≡ Done) where
+  pub counted-good : (i : ℕ) → i < countOf b → GoodElement k b (offsetAt b i)
+  counted-good i l = good-element k b (offsetAt b i) (offsetAt b (i + 1)) (all-good k b .0 d i l) .0
 
+  -- a counted element's value lies among the values of the use's scope
+  pub element-within : (i : ℕ) → i < countOf b → (x : Entry) (p : ℕ) → kindOf (idAt b (offsetAt b i)) ≡ Listed x → x .source ≡ Stored p → p + x .size ≤ bytesOf (scopeFor (k .usage))
+  element-within i h x p e st =
+      let id = idAt b (offsetAt b i) in
+      let a : permits k id (Listed x) ≡ true = ap (permits k id) (sym e) ∙ counted-good i h .permitted in
+      let f = source-stored id x p e st in
+      let y = position-end (x .scope) id x e refl (f .0) in
+      let z : bytesOf (x .scope) ≡ bytesOf (scopeFor (k .usage)) = ap bytesOf (permits-scope k id x a) in
+      omega (arith, y, z, f .1)
+
+module _ (k : Context) (base : ℕ) (b : List ℕ) (d : firstBad k b ≡ Done) where
   -- one element stored
   element-frame : (i j : ℕ) (s : List ℕ) → i < countOf b → (Named base b (suc i) j → ⊥) → (kind : Kind) → kindOf (idAt b (offsetAt b i)) ≡ kind → sizeFits kind (sizeAt b (offsetAt b i)) ≡ true
       → getD (putAs kind base (valueAt b (offsetAt b i)) s) j 0 ≡ getD s j 0
@@ -39,7 +51,7 @@ module _ (k : Context) (base : ℕ) (b : List ℕ) (d : firstBad k b ≡ Done) w
   element-frame i j s l out (Listed x) e f = go (x .source) refl
     where
       long : length (valueAt b (offsetAt b i)) ≡ x .size
-      long = length-bytesAt b (offsetAt b i + 4) (sizeAt b (offsetAt b i)) (good i l .inside) ∙ size-listed x (sizeAt b (offsetAt b i)) f
+      long = length-bytesAt b (offsetAt b i + 4) (sizeAt b (offsetAt b i)) (counted-good k b d i l .inside) ∙ size-listed x (sizeAt b (offsetAt b i)) f
 
       apart : (p : ℕ) → x .source ≡ Stored p → Dec (j < base + p) → Dec (j < base + p + x .size) → getD (put s (base + p) (valueAt b (offsetAt b i))) j 0 ≡ getD s j 0
       apart p q (yes m) v = getD-put-other s (base + p) (valueAt b (offsetAt b i)) j (right (omega arith))
@@ -57,20 +69,14 @@ module _ (k : Context) (base : ℕ) (b : List ℕ) (d : firstBad k b ≡ Done) w
   unfolding applied
   applied-frame zero j s h out = refl
   applied-frame (suc n) j s h out =
-      element-frame n j (applied base b n s) (omega arith) out (kindOf (idAt b (offsetAt b n))) refl (good n (omega arith) .sized)
+      element-frame n j (applied base b n s) (omega arith) out (kindOf (idAt b (offsetAt b n))) refl (counted-good k b d n (omega arith) .sized)
       ∙ applied-frame n j s (omega arith) (λ m. out (more n j m))
 
   -- a named byte lies among the values of the use's scope
   pub named-within : (n j : ℕ) → n ≤ countOf b → Named base b n j → (base ≤ j) × (j < base + bytesOf (scopeFor (k .usage)))
   named-within n j h m =
-      let i = m .index in
-      let g = good i (omega (arith, m .counted)) in
-      let p : permits k (idAt b (offsetAt b i)) (Listed (m .entry)) ≡ true = ap (permits k (idAt b (offsetAt b i))) (sym (m .listed)) ∙ g .permitted in
-      let sc : m .entry .scope ≡ scopeFor (k .usage) = permits-scope k (idAt b (offsetAt b i)) (m .entry) p in
-      let st = source-stored (idAt b (offsetAt b i)) (m .entry) (m .place) (m .listed) (m .stored) in
-      let e = position-end (m .entry .scope) (idAt b (offsetAt b i)) (m .entry) (m .listed) refl (st .0) in
-      let z : bytesOf (m .entry .scope) ≡ bytesOf (scopeFor (k .usage)) = ap bytesOf sc in
-      (omega (arith, m .from), omega (arith, m .below, st .1, e, z))
+      let e = element-within k b d (m .index) (omega (arith, m .counted)) (m .entry) (m .place) (m .listed) (m .stored) in
+      (omega (arith, m .from), omega (arith, m .below, e))
 
   -- so a part of the store beside those values is as it was
   pub beside : (s : List ℕ) (i n : ℕ) → Clear base (bytesOf (scopeFor (k .usage))) i n → bytesAt (applied base b (countOf b) s) i n ≡ bytesAt s i n

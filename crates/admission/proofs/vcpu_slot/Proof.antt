@@ -1,38 +1,17 @@
+-- The layout is the one that the store's length tells.
+use Rattle.admission.proofs.Targets.{slot-sized, within-sized}
 use borrow.Author.Needs.{needs}
-use Rattle.admission.proofs.FirstTests.{good-long}
-use Rattle.admission.proofs.Targets.{slot-malformed, slot-dead, slot-absent, slot-found, slot-within}
 use Rattle.admission.proofs.vcpu_slot.Statement.{statement}
 use Rattle.admission.proofs.vcpu_slot.Tie as tie
 
-well-formed-requires : tie.Need-well-formed-requires
-well-formed-requires c κs = search needs
+layout-of-requires : tie.Need-layout-of-requires
+layout-of-requires c κs = search needs
+
+slot-with-requires : tie.Need-slot-with-requires
+slot-with-requires c κs = search needs
 
 returns : tie.Need-returns
-returns c = (search (needs, slot-malformed), tt)
-
-is-live-requires : tie.Need-is-live-requires
-is-live-requires c κs = (search needs, search (needs, good-long))
-
-returns-2 : tie.Need-returns-2
-returns-2 c = (search (needs, slot-dead), tt)
-
-slot-of-requires : tie.Need-slot-of-requires
-slot-of-requires c κs = (search needs, search (needs, good-long))
-
-returns-3 : tie.Need-returns-3
-returns-3 c = (search (needs, slot-absent), tt)
-
-returns-4 : tie.Need-returns-4
-returns-4 c = (search (needs, slot-found), (search (needs, good-long), search needs, search (needs, slot-within)))
+returns c = (search (needs, slot-sized), search (needs, within-sized))
 
 pub vcpu-slot-spec : {M : Type 1} → statement M
-vcpu-slot-spec =
-    tie.close
-    (tie.spec
-    well-formed-requires
-    returns
-    is-live-requires
-    returns-2
-    slot-of-requires
-    returns-3
-    returns-4)
+vcpu-slot-spec = tie.close (tie.spec layout-of-requires slot-with-requires returns)

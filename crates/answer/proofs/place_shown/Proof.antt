@@ -46,6 +46,9 @@ enum-told-13 c = search needs
 enum-told-14 : tie.Need-enum-told-14
 enum-told-14 c = search needs
 
+enum-told-15 : tie.Need-enum-told-15
+enum-told-15 c = search needs
+
 returns : tie.Need-returns
 returns c = search (needs, shows)
 
@@ -88,6 +91,9 @@ returns-13 c = search (needs, shows)
 returns-14 : tie.Need-returns-14
 returns-14 c = search (needs, shows)
 
+returns-15 : tie.Need-returns-15
+returns-15 c = search (needs, shows)
+
 pub place-shown-spec : {M : Type 1} → statement M
 place-shown-spec =
     tie.close
@@ -106,6 +112,7 @@ place-shown-spec =
     enum-told-12
     enum-told-13
     enum-told-14
+    enum-told-15
     returns
     returns-2
     returns-3
@@ -119,4 +126,5 @@ place-shown-spec =
     returns-11
     returns-12
     returns-13
-    returns-14)
+    returns-14
+    returns-15)

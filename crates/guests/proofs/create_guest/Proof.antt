@@ -1,84 +1,21 @@
--- By how far the tests came: the laws `guest-..` of Answers.
-use Rattle.store.proofs.Small.{small-sound}
-use Rattle.admission.proofs.FirstTests.{past-long}
-use Rattle.guests.proofs.Answers.{guest-refused, guest-token, guest-full, guest-made}
+-- The layout is the one that the store's length tells.
+use Rattle.guests.proofs.Answers.{guest-sized}
 use borrow.Author.Needs.{needs}
 use Rattle.guests.proofs.create_guest.Statement.{statement}
 use Rattle.guests.proofs.create_guest.Tie as tie
 
-small-layout-requires : tie.Need-small-layout-requires
-small-layout-requires c κs = search needs
+layout-of-requires : tie.Need-layout-of-requires
+layout-of-requires c κs = search needs
 
-admit-requires : tie.Need-admit-requires
-admit-requires c κs = search (needs, small-sound)
-
-enum-known-fault : tie.Need-enum-known-fault
-enum-known-fault c = search needs
-
-refusal-requires : tie.Need-refusal-requires
-refusal-requires c κs = search needs
+create-guest-with-requires : tie.Need-create-guest-with-requires
+create-guest-with-requires c κs = search needs
 
 same-length : tie.Need-same-length
 same-length c = search needs
 
 returns : tie.Need-returns
-returns c = search (needs, guest-refused)
-
-enum-told : tie.Need-enum-told
-enum-told c = search needs
-
-refusal-requires-2 : tie.Need-refusal-requires-2
-refusal-requires-2 c κs = search needs
-
-same-length-2 : tie.Need-same-length-2
-same-length-2 c = search needs
-
-returns-2 : tie.Need-returns-2
-returns-2 c = search (needs, guest-token)
-
-free-guest-requires : tie.Need-free-guest-requires
-free-guest-requires c κs = (search (needs, small-sound), search (needs, past-long))
-
-refusal-requires-3 : tie.Need-refusal-requires-3
-refusal-requires-3 c κs = search needs
-
-same-length-3 : tie.Need-same-length-3
-same-length-3 c = search needs
-
-returns-3 : tie.Need-returns-3
-returns-3 c = search (needs, guest-full)
-
-with-guest-requires : tie.Need-with-guest-requires
-with-guest-requires c κs = (search (needs, small-sound), search (needs, past-long), search needs, search needs)
-
-success-requires : tie.Need-success-requires
-success-requires c κs = search needs
-
-same-length-4 : tie.Need-same-length-4
-same-length-4 c = search needs
-
-returns-4 : tie.Need-returns-4
-returns-4 c = search (needs, guest-made)
+returns c = search (needs, guest-sized)
 
 pub create-guest-spec : {M : Type 1} → statement M
 create-guest-spec =
-    tie.close
-    (tie.spec
-    small-layout-requires
-    admit-requires
-    enum-known-fault
-    refusal-requires
-    same-length
-    returns
-    enum-told
-    refusal-requires-2
-    same-length-2
-    returns-2
-    free-guest-requires
-    refusal-requires-3
-    same-length-3
-    returns-3
-    with-guest-requires
-    success-requires
-    same-length-4
-    returns-4)
+    tie.close (tie.spec layout-of-requires create-guest-with-requires same-length returns)

@@ -19,8 +19,6 @@ use run::RunTarget;
 use run::judge_exit;
 use run::run_target_of;
 use state::context_of;
-use store::Layout;
-use store::small_layout;
 use transfer::apply;
 ghost use mathlib.Core.Path.{_≡_};
 ghost use mathlib.Core.Bool.{true};
@@ -28,7 +26,7 @@ ghost use Prim.Native.Nat.{_≤_};
 ghost use lib.ListN.{length};
 ghost use Rattle.elements.specs.declared.Offer.the-variants.{Full};
 ghost use Rattle.gsb.specs.Message.{message};
-ghost use Rattle.store.specs.Layout.{Sound, small};
+ghost use Rattle.store.specs.Layout.{layoutOf};
 ghost use Rattle.run.specs.Private.{contentGood};
 ghost use Rattle.l1.specs.Marks.{goodCache};
 ghost use Rattle.l1.specs.Cache.{pending, RunOutcome, runCache};
@@ -37,22 +35,21 @@ ghost use Rattle.l1.specs.Private.{cachedTarget, Sendable, sent};
 // What would be sent, then 13 and 14. A cache that is good by the guest's list sends nothing that it lacks.
 fn judge_sent(
     store: &[u8],
-    l: Layout,
     guest: usize,
     values: &[u8],
     marks: &[u64],
     effect: &[u8],
     exit: u64,
 ) -> Admission
-    requires { ⌜ Sound l × (length (now store) ≡ l .size) × (1 ≤ guest) × (guest ≤ l .guests) × (goodCache Full (record { values = now values; marks = now marks }) ≡ true) ⌝ }
-    ensures { λ r. ⌜ r ≡ contentGood l (now (store .entry)) guest (message (pending (record { values = now (values .entry); marks = now (marks .entry) }))) (now (effect .entry)) exit ⌝ }
+    requires { ⌜ (length (now store) ≡ layoutOf (now store) .size) × (1 ≤ guest) × (guest ≤ layoutOf (now store) .guests) × (goodCache Full (record { values = now values; marks = now marks }) ≡ true) ⌝ }
+    ensures { λ r. ⌜ r ≡ contentGood (layoutOf (now (store .entry))) (now (store .entry)) guest (message (pending (record { values = now (values .entry); marks = now (marks .entry) }))) (now (effect .entry)) exit ⌝ }
 {
-    let k = context_of(store, l, guest, Usage::RunInput);
+    let k = context_of(store, guest, Usage::RunInput);
     let offer = k.offer;
     if !good_cache(offer, values, marks) {
         return Admission::Refused(Fault::Element(Bad::Id, first_lacked(offer, marks)));
     }
-    judge_exit(context_of(store, l, guest, Usage::Effect), effect, exit)
+    judge_exit(context_of(store, guest, Usage::Effect), effect, exit)
 }
 
 // All the tests of a run, of the input that would be written.
@@ -71,11 +68,9 @@ fn judge_cached(
     requires { ⌜ goodCache Full (record { values = now values; marks = now marks }) ≡ true ⌝ }
     ensures { λ r. ⌜ r ≡ cachedTarget (now (store .entry)) (record { values = now (values .entry); marks = now (marks .entry) }) flags guest vcpu «input_len» «output_len» (now (effect .entry)) exit ⌝ }
 {
-    let l = small_layout();
     let need = bytes_needed(marks);
     let target = run_target_of(
         store,
-        l,
         flags,
         guest as usize,
         vcpu as usize,
@@ -86,7 +81,7 @@ fn judge_cached(
     match target {
         RunTarget::Refused(fault) => RunTarget::Refused(fault),
         RunTarget::Slot(base, size) => {
-            match judge_sent(store, l, guest as usize, values, marks, effect, exit) {
+            match judge_sent(store, guest as usize, values, marks, effect, exit) {
                 Admission::Refused(fault) => RunTarget::Refused(fault),
                 Admission::Admitted => RunTarget::Slot(base, size),
             }
@@ -130,7 +125,7 @@ pub fn run(
     effect: &[u8],
     exit_reason: u64,
 ) -> Answer
-    ensures { λ r. ⌜ _≡_ {A = RunOutcome} (record { answer = r; store = now (store .exit); cache = record { values = now (values .exit); marks = now (marks .exit) }; input = now (input .exit); output = now (output .exit) }) (runCache small (now (store .entry)) (record { values = now (values .entry); marks = now (marks .entry) }) flags guest vcpu pvr (now (input .entry)) (now (output .entry)) (now (effect .entry)) «exit_reason») ⌝ }
+    ensures { λ r. ⌜ _≡_ {A = RunOutcome} (record { answer = r; store = now (store .exit); cache = record { values = now (values .exit); marks = now (marks .exit) }; input = now (input .exit); output = now (output .exit) }) (runCache (layoutOf (now (store .entry))) (now (store .entry)) (record { values = now (values .entry); marks = now (marks .entry) }) flags guest vcpu pvr (now (input .entry)) (now (output .entry)) (now (effect .entry)) «exit_reason») ⌝ }
 {
     if !good_cache(offer_of(pvr), values, marks) {
         return refusal(Fault::Cache);

@@ -1,5 +1,5 @@
 -- By the target, then by the contents (`run-..`).
-use Rattle.store.proofs.Small.{small-sound}
+use Rattle.store.proofs.Sizes.{layout-sound}
 use Rattle.run.proofs.Runs.{run-found-lends, run-found-long, run-found-low, run-found-high, run-found-part, run-refused, run-content, run-slot}
 use borrow.Author.Needs.{needs}
 use Rattle.run.proofs.judge_run.Statement.{statement}
@@ -15,15 +15,14 @@ enum-known-target-2 : tie.Need-enum-known-target-2
 enum-known-target-2 c = search needs
 
 first-bytes-requires : tie.Need-first-bytes-requires
-first-bytes-requires c κs = search (needs, run-found-lends, small-sound)
+first-bytes-requires c κs = search (needs, run-found-lends, layout-sound)
 
 judge-content-requires : tie.Need-judge-content-requires
 judge-content-requires c κs = (
-  search (needs, small-sound),
-  search (needs, run-found-long, small-sound),
-  search (needs, run-found-low, small-sound),
-  search (needs, run-found-high, small-sound),
-  search (needs, run-found-part, small-sound),
+  search (needs, run-found-long, layout-sound),
+  search (needs, run-found-low, layout-sound),
+  search (needs, run-found-high, layout-sound),
+  search (needs, run-found-part, layout-sound),
 )
 
 enum-known-content : tie.Need-enum-known-content

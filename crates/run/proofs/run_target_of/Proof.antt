@@ -5,8 +5,8 @@ use borrow.Author.Needs.{needs}
 use Rattle.run.proofs.run_target_of.Statement.{statement}
 use Rattle.run.proofs.run_target_of.Tie as tie
 
-small-target-requires : tie.Need-small-target-requires
-small-target-requires c κs = search needs
+target-of-requires : tie.Need-target-of-requires
+target-of-requires c κs = search needs
 
 enum-known-target : tie.Need-enum-known-target
 enum-known-target c = search needs
@@ -42,7 +42,7 @@ pub run-target-of-spec : {M : Type 1} → statement M
 run-target-of-spec =
     tie.close
     (tie.spec
-    small-target-requires
+    target-of-requires
     enum-known-target
     enum-known-target-2
     judge-lent-requires

@@ -1,13 +1,9 @@
 -- By the target (`set-turned`, `set-found`).
-use Rattle.store.proofs.Small.{small-sound}
 use Rattle.admission.proofs.Targets.{found-low, found-high, held-size, held-room}
 use Rattle.state.proofs.Buffers.{set-room, set-turned, set-found}
 use borrow.Author.Needs.{needs}
 use Rattle.state.proofs.set_elements.Statement.{statement}
 use Rattle.state.proofs.set_elements.Tie as tie
-
-small-layout-requires : tie.Need-small-layout-requires
-small-layout-requires c κs = search needs
 
 is-wide-requires : tie.Need-is-wide-requires
 is-wide-requires c κs = search needs
@@ -15,8 +11,8 @@ is-wide-requires c κs = search needs
 supported-bits-requires : tie.Need-supported-bits-requires
 supported-bits-requires c κs = search needs
 
-small-target-requires : tie.Need-small-target-requires
-small-target-requires c κs = search needs
+target-of-requires : tie.Need-target-of-requires
+target-of-requires c κs = search needs
 
 enum-known-target : tie.Need-enum-known-target
 enum-known-target c = search needs
@@ -31,7 +27,7 @@ set-use-requires : tie.Need-set-use-requires
 set-use-requires c κs = search needs
 
 context-of-requires : tie.Need-context-of-requires
-context-of-requires c κs = (search (needs, small-sound), search (needs, held-size), search (needs, found-low), search (needs, found-high))
+context-of-requires c κs = (search (needs, held-size), search (needs, found-low), search (needs, found-high))
 
 set-at-requires : tie.Need-set-at-requires
 set-at-requires c κs = search (needs, set-room, held-size, held-room)
@@ -52,10 +48,9 @@ pub set-elements-spec : {M : Type 1} → statement M
 set-elements-spec =
     tie.close
     (tie.spec
-    small-layout-requires
     is-wide-requires
     supported-bits-requires
-    small-target-requires
+    target-of-requires
     enum-known-target
     refusal-requires
     enum-known-target-2

@@ -1,116 +1,21 @@
--- By how far the tests came: the laws `vcpu-..` of Answers; the last take their facts by path, since search stops at that many.
-use Rattle.store.proofs.Small.{small-sound}
-use Rattle.admission.proofs.FirstTests.{past-long, live-few}
-use Rattle.guests.proofs.Answers.{vcpu-refused, vcpu-dead, vcpu-high, vcpu-there, vcpu-full, vcpu-made}
+-- The layout is the one that the store's length tells.
+use Rattle.guests.proofs.Answers.{vcpu-sized}
 use borrow.Author.Needs.{needs}
 use Rattle.guests.proofs.vcpus.create_vcpu.Statement.{statement}
 use Rattle.guests.proofs.vcpus.create_vcpu.Tie as tie
 
-small-layout-requires : tie.Need-small-layout-requires
-small-layout-requires c κs = search needs
+layout-of-requires : tie.Need-layout-of-requires
+layout-of-requires c κs = search needs
 
-admit-requires : tie.Need-admit-requires
-admit-requires c κs = search (needs, small-sound)
-
-enum-known-fault : tie.Need-enum-known-fault
-enum-known-fault c = search needs
-
-refusal-requires : tie.Need-refusal-requires
-refusal-requires c κs = search needs
+create-vcpu-with-requires : tie.Need-create-vcpu-with-requires
+create-vcpu-with-requires c κs = search needs
 
 same-length : tie.Need-same-length
 same-length c = search needs
 
 returns : tie.Need-returns
-returns c = search (needs, vcpu-refused)
-
-enum-told : tie.Need-enum-told
-enum-told c = search needs
-
-is-live-requires : tie.Need-is-live-requires
-is-live-requires c κs = (search (needs, small-sound), search (needs, past-long))
-
-refusal-requires-2 : tie.Need-refusal-requires-2
-refusal-requires-2 c κs = search needs
-
-same-length-2 : tie.Need-same-length-2
-same-length-2 c = search needs
-
-returns-2 : tie.Need-returns-2
-returns-2 c = search (needs, vcpu-dead)
-
-refusal-requires-3 : tie.Need-refusal-requires-3
-refusal-requires-3 c κs = search needs
-
-same-length-3 : tie.Need-same-length-3
-same-length-3 c = search needs
-
-returns-3 : tie.Need-returns-3
-returns-3 c = search (needs, vcpu-high)
-
-slot-of-requires : tie.Need-slot-of-requires
-slot-of-requires c κs = (search (needs, small-sound), search (needs, past-long))
-
-refusal-requires-4 : tie.Need-refusal-requires-4
-refusal-requires-4 c κs = search needs
-
-same-length-4 : tie.Need-same-length-4
-same-length-4 c = search needs
-
-returns-4 : tie.Need-returns-4
-returns-4 c = vcpu-there _ (c .before .before .before .before .before .before .before .before .before .before .before .before .before .small-layout .ensures) _ _ _ _ _ (c .before .before .before .before .before .before .before .before .before .before .before .admit .ensures) _ (c .before .before .before .before .before .before .before .before .before .enum-told .given .1) _ (c .before .before .before .before .before .before .before .is-live .ensures) (c .before .before .before .before .before .before .if1 .left) (c .before .before .before .before .before .if2 .left) _ (c .before .before .before .slot-of .ensures .0) (c .before .if3 .taken) (c .refusal4 .ensures)
-
-free-slot-requires : tie.Need-free-slot-requires
-free-slot-requires c κs = (search (needs, small-sound), search (needs, past-long))
-
-refusal-requires-5 : tie.Need-refusal-requires-5
-refusal-requires-5 c κs = search needs
-
-same-length-5 : tie.Need-same-length-5
-same-length-5 c = search needs
-
-returns-5 : tie.Need-returns-5
-returns-5 c = vcpu-full _ (c .before .before .before .before .before .before .before .before .before .before .before .before .before .before .before .before .before .small-layout .ensures) _ _ _ _ _ (c .before .before .before .before .before .before .before .before .before .before .before .before .before .before .before .admit .ensures) _ (c .before .before .before .before .before .before .before .before .before .before .before .before .before .enum-told .given .1) _ (c .before .before .before .before .before .before .before .before .before .before .before .is-live .ensures) (c .before .before .before .before .before .before .before .before .before .before .if1 .left) (c .before .before .before .before .before .before .before .before .before .if2 .left) _ (c .before .before .before .before .before .before .before .slot-of .ensures .0) (c .before .before .before .before .before .if3 .left) _ (c .before .before .before .free-slot .ensures .0) (c .before .if4 .taken) (c .refusal5 .ensures)
-
-with-vcpu-requires : tie.Need-with-vcpu-requires
-with-vcpu-requires c κs = (search (needs, small-sound), search (needs, past-long), search needs, live-few _ _ _ _ (c .before .before .before .before .before .before .before .before .before .before .before .is-live .ensures) (c .before .before .before .before .before .before .before .before .before .before .if1 .left), search needs)
-
-success-requires : tie.Need-success-requires
-success-requires c κs = search needs
-
-same-length-6 : tie.Need-same-length-6
-same-length-6 c = search needs
-
-returns-6 : tie.Need-returns-6
-returns-6 c = vcpu-made _ (c .before .before .before .before .before .before .before .before .before .before .before .before .before .before .before .before .before .before .before .before .before .small-layout .ensures) _ _ _ _ _ (c .before .before .before .before .before .before .before .before .before .before .before .before .before .before .before .before .before .before .before .admit .ensures) _ (c .before .before .before .before .before .before .before .before .before .before .before .before .before .before .before .before .before .enum-told .given .1) _ (c .before .before .before .before .before .before .before .before .before .before .before .before .before .before .before .is-live .ensures) (c .before .before .before .before .before .before .before .before .before .before .before .before .before .before .if1 .left) (c .before .before .before .before .before .before .before .before .before .before .before .before .before .if2 .left) _ (c .before .before .before .before .before .before .before .before .before .before .before .slot-of .ensures .0) (c .before .before .before .before .before .before .before .before .before .if3 .left) _ (c .before .before .before .before .before .before .before .free-slot .ensures .0) _ (c .before .before .before .before .before .if4 .left) (c .before .before .before .with-vcpu .ensures) (c .success .ensures)
+returns c = search (needs, vcpu-sized)
 
 pub create-vcpu-spec : {M : Type 1} → statement M
 create-vcpu-spec =
-    tie.close
-    (tie.spec
-    small-layout-requires
-    admit-requires
-    enum-known-fault
-    refusal-requires
-    same-length
-    returns
-    enum-told
-    is-live-requires
-    refusal-requires-2
-    same-length-2
-    returns-2
-    refusal-requires-3
-    same-length-3
-    returns-3
-    slot-of-requires
-    refusal-requires-4
-    same-length-4
-    returns-4
-    free-slot-requires
-    refusal-requires-5
-    same-length-5
-    returns-5
-    with-vcpu-requires
-    success-requires
-    same-length-6
-    returns-6)
+    tie.close (tie.spec layout-of-requires create-vcpu-with-requires same-length returns)

@@ -4,11 +4,14 @@ use borrow.Author.Needs.{needs}
 use Rattle.l0.proofs.capabilities.fresh_store.Statement.{statement}
 use Rattle.l0.proofs.capabilities.fresh_store.Tie as tie
 
-small-layout-requires : tie.Need-small-layout-requires
-small-layout-requires c κs = search needs
+layout-of-requires : tie.Need-layout-of-requires
+layout-of-requires c κs = search needs
 
 refusal-requires : tie.Need-refusal-requires
 refusal-requires c κs = search needs
+
+same-length : tie.Need-same-length
+same-length c = search needs
 
 returns : tie.Need-returns
 returns c = search (needs, fresh-refused)
@@ -19,8 +22,8 @@ clear-requires c κs = search needs
 success-requires : tie.Need-success-requires
 success-requires c κs = search needs
 
-same-length : tie.Need-same-length
-same-length c = search needs
+same-length-2 : tie.Need-same-length-2
+same-length-2 c = search needs
 
 returns-2 : tie.Need-returns-2
 returns-2 c = search (needs, fresh-made)
@@ -29,10 +32,11 @@ pub fresh-store-spec : {M : Type 1} → statement M
 fresh-store-spec =
     tie.close
     (tie.spec
-    small-layout-requires
+    layout-of-requires
     refusal-requires
+    same-length
     returns
     clear-requires
     success-requires
-    same-length
+    same-length-2
     returns-2)

@@ -1,43 +1,18 @@
--- By the first tests: the laws `get-..` of Answers.
-use Rattle.store.proofs.Small.{small-sound}
-use Rattle.l0.proofs.Answers.{get-refused, get-told}
+-- The layout is the one that the store's length tells.
+use Rattle.l0.proofs.Answers.{get-sized}
 use borrow.Author.Needs.{needs}
 use Rattle.l0.proofs.capabilities.get_capabilities.Statement.{statement}
 use Rattle.l0.proofs.capabilities.get_capabilities.Tie as tie
 
-small-layout-requires : tie.Need-small-layout-requires
-small-layout-requires c κs = search needs
+layout-of-requires : tie.Need-layout-of-requires
+layout-of-requires c κs = search needs
 
-admit-requires : tie.Need-admit-requires
-admit-requires c κs = search (needs, small-sound)
-
-enum-known-admission : tie.Need-enum-known-admission
-enum-known-admission c = search needs
-
-refusal-requires : tie.Need-refusal-requires
-refusal-requires c κs = search needs
-
-enum-told : tie.Need-enum-told
-enum-told c = search needs
-
-success-requires : tie.Need-success-requires
-success-requires c κs = search needs
+get-capabilities-with-requires : tie.Need-get-capabilities-with-requires
+get-capabilities-with-requires c κs = search needs
 
 returns : tie.Need-returns
-returns c = search (needs, get-refused)
-
-returns-2 : tie.Need-returns-2
-returns-2 c = search (needs, get-told)
+returns c = search (needs, get-sized)
 
 pub get-capabilities-spec : {M : Type 1} → statement M
 get-capabilities-spec =
-    tie.close
-    (tie.spec
-    small-layout-requires
-    admit-requires
-    enum-known-admission
-    refusal-requires
-    enum-told
-    success-requires
-    returns
-    returns-2)
+    tie.close (tie.spec layout-of-requires get-capabilities-with-requires returns)

@@ -1,5 +1,4 @@
 -- By the target (`one-turned`, `one-got`).
-use Rattle.store.proofs.Small.{small-sound}
 use Rattle.admission.proofs.Targets.{found-low, found-high, held-size, held-vcpu}
 use Rattle.state.proofs.Buffers.{context-use}
 use Rattle.state.proofs.Elements.{one-turned, one-kept, one-got, one-bytes}
@@ -7,11 +6,8 @@ use borrow.Author.Needs.{needs}
 use Rattle.state.proofs.single.get_element.Statement.{statement}
 use Rattle.state.proofs.single.get_element.Tie as tie
 
-small-layout-requires : tie.Need-small-layout-requires
-small-layout-requires c κs = search needs
-
-small-target-requires : tie.Need-small-target-requires
-small-target-requires c κs = search needs
+target-of-requires : tie.Need-target-of-requires
+target-of-requires c κs = search needs
 
 enum-known-target : tie.Need-enum-known-target
 enum-known-target c = search needs
@@ -23,7 +19,7 @@ enum-known-target-2 : tie.Need-enum-known-target-2
 enum-known-target-2 c = search needs
 
 context-of-requires : tie.Need-context-of-requires
-context-of-requires c κs = (search (needs, small-sound), search (needs, held-size), search (needs, found-low), search (needs, found-high))
+context-of-requires c κs = (search (needs, held-size), search (needs, found-low), search (needs, found-high))
 
 get-one-requires : tie.Need-get-one-requires
 get-one-requires c κs = (search needs, (search (needs, context-use), search (needs, held-vcpu)))
@@ -41,8 +37,7 @@ pub get-element-spec : {M : Type 1} → statement M
 get-element-spec =
     tie.close
     (tie.spec
-    small-layout-requires
-    small-target-requires
+    target-of-requires
     enum-known-target
     refusal-requires
     enum-known-target-2

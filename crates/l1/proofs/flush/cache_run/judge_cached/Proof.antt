@@ -1,13 +1,10 @@
 -- By how far the tests came (`cached-..` of Running).
 use Rattle.l1.proofs.Running.{full-six, cached-refused, cached-content, cached-slot}
-use Rattle.store.proofs.Small.{small-sound}
+use Rattle.store.proofs.Sizes.{layout-sound}
 use Rattle.run.proofs.Runs.{run-found-long, run-found-low, run-found-high}
 use borrow.Author.Needs.{needs}
 use Rattle.l1.proofs.flush.cache_run.judge_cached.Statement.{statement}
 use Rattle.l1.proofs.flush.cache_run.judge_cached.Tie as tie
-
-small-layout-requires : tie.Need-small-layout-requires
-small-layout-requires c κs = search needs
 
 bytes-needed-requires : tie.Need-bytes-needed-requires
 bytes-needed-requires c κs = search (needs, full-six)
@@ -22,7 +19,7 @@ enum-known-target-2 : tie.Need-enum-known-target-2
 enum-known-target-2 c = search needs
 
 judge-sent-requires : tie.Need-judge-sent-requires
-judge-sent-requires c κs = (search (needs, small-sound), search (needs, run-found-long, small-sound), search (needs, run-found-low, small-sound), search (needs, run-found-high, small-sound), search needs)
+judge-sent-requires c κs = (search (needs, run-found-long, layout-sound), search (needs, run-found-low, layout-sound), search (needs, run-found-high, layout-sound), search needs)
 
 enum-known-fault : tie.Need-enum-known-fault
 enum-known-fault c = search needs
@@ -43,7 +40,6 @@ pub judge-cached-spec : {M : Type 1} → statement M
 judge-cached-spec =
     tie.close
     (tie.spec
-    small-layout-requires
     bytes-needed-requires
     run-target-of-requires
     enum-known-target
