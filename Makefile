@@ -14,10 +14,12 @@ archive = target/staticlib/libadderknot.a
 # The L1 cache, of which the library has nothing for C: only the bench builds it, to measure it.
 cache_archive = target/staticlib/libl1bench.a
 bench = target/bench
-programs = $(addprefix $(bench)/,cached calls compare count example hand-over score score-vendor shallow speed)
+programs = $(addprefix $(bench)/,cached calls compare count example hand-over join joins score score-vendor shallow speed)
 vendors = $(patsubst bench/mistakes/%.edit,$(bench)/vendor-%.so,$(wildcard bench/mistakes/*.edit)) \
     $(patsubst tests/score/hostile/%.c,$(bench)/hostile-%.so,$(wildcard tests/score/hostile/*.c)) \
     $(bench)/model.so $(bench)/private.so
+# The comparison of joins with a mistake in the model, for each.
+wrong_joins = $(patsubst bench/join_mistakes/%.edit,$(bench)/joins-%,$(wildcard bench/join_mistakes/*.edit))
 headers = $(wildcard include/*.h bench/*.h)
 night = $(addprefix bench/,night.c damage.c form.c gsb.c lent.c store.c chance.c tell.c)
 scoring = $(addprefix bench/,account.c cover.c csv.c figures.c judge.c order.c page.c parts.c result.c sha256.c \
@@ -26,11 +28,11 @@ scoring = $(addprefix bench/,account.c cover.c csv.c figures.c judge.c order.c p
 .PHONY: all bench run score speed counts figures listing test install uninstall clean tools help
 .PHONY: browser compiler kit
 .DELETE_ON_ERROR:
-.PRECIOUS: $(bench)/vendor-%.c
+.PRECIOUS: $(bench)/vendor-%.c $(bench)/joins-%.c
 
 all: $(archive) ## prove the library and build target/staticlib/libadderknot.a
 
-bench: $(programs) $(vendors) ## build the C programs, and vendors' libraries to try the score on
+bench: $(programs) $(vendors) $(wrong_joins) ## build the C programs, and vendors' libraries to try the score on
 
 run: $(bench)/compare ## compare the library with the model, on two million calls of the small store and two million of the large one
 	$(bench)/compare $(ARGS)
@@ -138,12 +140,14 @@ $(bench)/%: bench/%.c $(headers) $(archive)
 	mkdir -p $(bench)
 	$(CC) $(CFLAGS) -Iinclude $(filter %.c,$^) $(filter %.a,$^) $(LDLIBS) -o $@
 
-$(bench)/cached $(bench)/calls $(bench)/compare $(bench)/count $(bench)/shallow $(bench)/speed: bench/model.c
+$(bench)/cached $(bench)/calls $(bench)/compare $(bench)/count $(bench)/joins $(bench)/shallow $(bench)/speed: bench/model.c
 $(bench)/cached $(bench)/count $(bench)/shallow $(bench)/speed: bench/model_cache.c $(cache_archive)
 $(bench)/count $(bench)/shallow $(bench)/speed: bench/cases.c
 $(bench)/calls $(bench)/count $(bench)/speed: bench/store.c
 $(bench)/cached $(bench)/compare $(bench)/score $(bench)/shallow: $(night)
 $(bench)/compare: bench/lists.c bench/met.c bench/both.c
+$(bench)/joins $(bench)/shallow: bench/pairs.c
+$(bench)/joins: bench/lent.c bench/chance.c
 # A first call through the dynamic linker would take its stack.
 $(bench)/shallow: LDLIBS = -Wl,-z,now
 $(bench)/shallow: bench/deep.c bench/depth.c
@@ -154,10 +158,11 @@ $(bench)/score-vendor: bench/host.c bench/window.c $(filter-out bench/tell.c,$(n
 	mkdir -p $(bench)
 	$(CC) $(CFLAGS) -Iinclude $(filter %.c,$^) -ldl -o $@
 
-# The examples of README.md, as they stand there: its first and its second block of C.
+# The examples of README.md, as they stand there: its first blocks of C.
 $(bench)/example: block = 1
 $(bench)/hand-over: block = 2
-$(bench)/example $(bench)/hand-over: README.md $(wildcard include/*.h) $(archive)
+$(bench)/join: block = 3
+$(bench)/example $(bench)/hand-over $(bench)/join: README.md $(wildcard include/*.h) $(archive)
 	mkdir -p $(bench)
 	awk -v n=$(block) '/^```c$$/ { on = ++seen == n; next } /^```$$/ { on = 0 } on' README.md > $@.c
 	$(CC) $(CFLAGS) -Iinclude $@.c $(archive) -o $@
@@ -173,6 +178,13 @@ $(bench)/model.so: bench/model.c $(headers) | compiler
 $(bench)/vendor-%.c: bench/mistakes/%.edit bench/model.c bench/edit.awk
 	mkdir -p $(bench)
 	awk -f bench/edit.awk $< bench/model.c > $@
+
+$(bench)/joins-%.c: bench/join_mistakes/%.edit bench/model.c bench/edit.awk
+	mkdir -p $(bench)
+	awk -f bench/edit.awk $< bench/model.c > $@
+
+$(bench)/joins-%: $(bench)/joins-%.c bench/joins.c bench/pairs.c bench/lent.c bench/chance.c $(headers) $(archive)
+	$(CC) $(CFLAGS) -Iinclude -Ibench $(filter %.c,$^) $(archive) -o $@
 
 $(bench)/vendor-%.so: $(bench)/vendor-%.c $(headers) | compiler
 	$(as_vendor) $< -o $@

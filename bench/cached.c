@@ -268,17 +268,6 @@ static bool compare_op(uint64_t number)
 
 /* ---- A run ---- */
 
-static bool read_options(int argc, char **argv, uint64_t *seed, uint64_t *ops)
-{
-    for (int i = 1; i < argc; i += 2) {
-        const char *value = i + 1 < argc ? argv[i + 1] : "";
-        bool calls = strcmp(argv[i], "--calls") == 0 && read_number(value, ops);
-        if (!calls && !(strcmp(argv[i], "--seed") == 0 && read_seed(value, seed)))
-            return false;
-    }
-    return true;
-}
-
 /* A night of stores of this size; 0 if nothing differs and all was met. */
 static int make_night(enum size size, uint64_t ops)
 {
@@ -300,7 +289,7 @@ static int make_night(enum size size, uint64_t ops)
 int main(int argc, char **argv)
 {
     uint64_t seed = SEED, ops = 200000;
-    if (!read_options(argc, argv, &seed, &ops)) {
+    if (!read_run(argc, argv, &seed, &ops)) {
         fprintf(stderr, "usage: cached [--calls N] [--seed S | --seed fresh]\n");
         return 2;
     }

@@ -29,6 +29,7 @@ struct cache {
 struct party {
     struct l0 on;
     struct l1 above;
+    __typeof__(adk_join) *join;
     uint8_t store[ADK_LARGE_STORE_SIZE];
     size_t store_len;
     uint64_t guest; /* the last one */
@@ -38,7 +39,8 @@ struct party {
     size_t at, len; /* what a lookup found */
 };
 
-struct party library = { .on = L0_LIBRARY, .above = L1_LIBRARY }, model = { .on = L0_MODEL, .above = L1_MODEL };
+struct party library = { .on = L0_LIBRARY, .above = L1_LIBRARY, .join = adk_join },
+             model = { .on = L0_MODEL, .above = L1_MODEL, .join = mdl_join };
 
 static adk_answer call_get(struct party *s)
 {
@@ -90,6 +92,15 @@ static adk_answer call_lookup(struct party *s)
     s->at = f.at;
     s->len = f.len;
     return (adk_answer){ f.r3, f.r4, f.r5 };
+}
+
+/* The two buffers stand one behind the other. */
+enum { HALF = 82, HALF_BYTES = 4 + HALF * 12 };
+
+static adk_answer call_join(struct party *s)
+{
+    const uint8_t *both = s->buffer.bytes;
+    return s->join(both, HALF_BYTES, both + HALF_BYTES, s->buffer.len - HALF_BYTES, s->output, sizeof s->output);
 }
 
 /* ---- The cache ---- */
@@ -215,6 +226,18 @@ static void build_input(struct buffer *b)
     add_run(b, 0x3000, 0x303F, 16);
 }
 
+/* The same 164 elements in two buffers, of which the first has those of 8 bytes. */
+static void build_halves(struct buffer *b)
+{
+    add_run(b, 0x0C02, 0x0C02, 8);
+    add_run(b, 0x1000, 0x1050, 8);
+    put(b->bytes + b->len, 4, HALF);
+    b->len += 4;
+    add_run(b, 0x1051, 0x1053, 8);
+    add_run(b, 0x2000, 0x200E, 4);
+    add_run(b, 0x3000, 0x303F, 16);
+}
+
 static void build_registrations(struct buffer *b)
 {
     add_registration(b, ADK_GSID_RUN_INPUT);
@@ -303,12 +326,13 @@ static const struct work WORK[] = {
     { "cache, a run, exit 0xC00, all 164 changed",
       call_run_all, build_input_room, 0, 0, ADK_OK, ADK_EXIT_HCALL, ANY_PVR },
     { "lookup, the last of 164", call_lookup, build_input, 164, 0, ADK_OK, 0, ANY_PVR },
+    { "join, two buffers of 82 elements", call_join, build_halves, HALF, 0, ADK_OK, 2424, ANY_PVR },
     { "cache, a write of GPR 3", call_cache_write, build_none, 0, 0, ADK_OK, 0, ANY_PVR },
     { "cache, a read of GPR 3, valid", call_cache_read, build_none, 0, 0, ADK_OK, 0, ANY_PVR },
 };
 
 /* The last ones look at no store. */
-enum { WORKS = sizeof WORK / sizeof WORK[0], WITHOUT_STORE = 3 };
+enum { WORKS = sizeof WORK / sizeof WORK[0], WITHOUT_STORE = 4 };
 
 size_t case_count(void)
 {

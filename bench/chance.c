@@ -38,6 +38,17 @@ bool read_seed(const char *text, uint64_t *seed)
     return true;
 }
 
+bool read_run(int argc, char **argv, uint64_t *seed, uint64_t *calls)
+{
+    for (int i = 1; i < argc; i += 2) {
+        const char *value = i + 1 < argc ? argv[i + 1] : "";
+        bool counts = strcmp(argv[i], "--calls") == 0 && read_number(value, calls);
+        if (!counts && !(strcmp(argv[i], "--seed") == 0 && read_seed(value, seed)))
+            return false;
+    }
+    return true;
+}
+
 uint64_t any_bit(void)
 {
     return ADK_BIT(below(64));

@@ -1,6 +1,6 @@
 /*
  * model.c: the rules of document 01 in plain C, as the requests of 02 amend them. It shares no text with the library,
- * so that a mistake in either shows as a difference. Quoted names are sections of 01; L1, L2, L4, L6, L7 and L12 are
+ * so that a mistake in either shows as a difference. Quoted names are sections of 01; L1, L2, L4, L6, L7, L8 and L12 are
  * requests of 02.
  */
 #include "model.h"
@@ -994,4 +994,44 @@ adk_found mdl_lookup(const uint8_t *buffer, size_t buffer_len, uint16_t id)
     if (found_at == 0)
         return (adk_found){ 6, count, 0, 0, 0 };
     return (adk_found){ 0, 0, 0, found_at, found_len };
+}
+
+/* L8, "7 for a cut element": its place, as the lookup tells it; r3 is 0 where there is none, and then the place is the
+   end of the counted elements. */
+static struct verdict first_cut(const uint8_t *buffer, size_t len)
+{
+    uint32_t count = load32(buffer), index = 0;
+    size_t at = 4, size;
+    while (index < count && len - at >= 4 && (size = load16(buffer + at + 2)) <= len - at - 4) {
+        at += 4 + size;
+        index++;
+    }
+    return (struct verdict){ index < count ? 7 : 0, index, at };
+}
+
+/*
+ * L8, "Two buffers or one": 5 for either buffer, 7 for a cut element of the first, then the second, with its index and
+ * offset; 5 for a joined length over 65,536; 12 with R4 1 if the lent result is too short. It is written to the
+ * result's first bytes, and R4 is its length.
+ */
+adk_answer mdl_join(const uint8_t *first, size_t first_len, const uint8_t *second, size_t second_len, uint8_t *result,
+                    size_t result_len)
+{
+    if (bad_length(first_len) || bad_length(second_len))
+        return answer(5, 0);
+    struct verdict a = first_cut(first, first_len);
+    if (a.r3 != 0)
+        return index_and_offset(a);
+    struct verdict b = first_cut(second, second_len);
+    if (b.r3 != 0)
+        return index_and_offset(b);
+    size_t len = a.offset + b.offset - 4;
+    if (len > 65536)
+        return answer(5, 0);
+    if (result_len < len)
+        return answer(12, 1);
+    store32(result, a.index + b.index);
+    memcpy(result + 4, first + 4, a.offset - 4);
+    memcpy(result + a.offset, second + 4, b.offset - 4);
+    return answer(0, len);
 }

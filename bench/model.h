@@ -23,5 +23,7 @@ adk_answer mdl_delete_guest(uint8_t *store, size_t store_len, uint64_t flags, ui
 adk_answer mdl_guest_clock(const uint8_t *store, size_t store_len, uint64_t guest, uint64_t timebase);
 adk_answer mdl_convert(const uint8_t *small, size_t small_len, uint8_t *large, size_t large_len);
 adk_found mdl_lookup(const uint8_t *buffer, size_t buffer_len, uint16_t id);
+adk_answer mdl_join(const uint8_t *first, size_t first_len, const uint8_t *second, size_t second_len, uint8_t *result,
+                    size_t result_len);
 
 #endif

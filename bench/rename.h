@@ -15,3 +15,4 @@
 #define mdl_guest_clock adk_guest_clock
 #define mdl_convert adk_convert
 #define mdl_lookup adk_lookup
+#define mdl_join adk_join

@@ -15,6 +15,7 @@
 #include "chance.h"
 #include "deep.h"
 #include "depth.h"
+#include "pairs.h"
 
 #include <inttypes.h>
 #include <stdio.h>
@@ -101,6 +102,9 @@ static adk_answer on_convert(const uint8_t *small, size_t n, uint8_t *large, siz
 
 static adk_found on_lookup(const uint8_t *b, size_t len, uint16_t id)
     SHALLOW(adk_found, lookup, AT(b), len, id)
+
+static adk_answer on_join(const uint8_t *a, size_t a_len, const uint8_t *b, size_t b_len, uint8_t *result, size_t len)
+    SHALLOW(adk_answer, join, AT(a), a_len, AT(b), b_len, AT(result), len)
 
 #define L0_SHALLOW_ENTRY(name) .name = on_##name,
 
@@ -199,6 +203,19 @@ static bool deepest_cases(enum size size, bool longest)
         answered[k] = 0;
     }
     return all;
+}
+
+static void try_join(const struct pair *p)
+{
+    adk_found wanted = plain(p->answer);
+    adk_found a = plain(join_pair(adk_join, LIBRARY, p)), b = plain(join_pair(on_join, OTHER, p));
+    bool good = same_answer(&a, &b) && same_answer(&b, &wanted) && same_pieces(p) && only_lent_changed(p);
+    last_seen->accepted += b.r3 == ADK_OK;
+    last_seen->refused += b.r3 != ADK_OK;
+    last_seen->wrong += !good;
+    if (!good)
+        printf("  join, first %s, second %s: answer %" PRIu64 ", or other bytes\n", p->first, p->second, b.r3);
+    share(RESULT, 0, p->len[RESULT]);
 }
 
 static bool stepped_cases(enum size size)
@@ -305,6 +322,11 @@ int main(int argc, char **argv)
     tell(reserved_is_seen(), "what a function reserves and does not write is seen step by step");
     for (enum size size = 0; size < SIZES; size++)
         try_size(size, calls);
+    share_all();
+    each_pair(true, try_join);
+    step_calls(true);
+    each_pair(false, try_join);
+    step_calls(false);
     read_computed();
     for (size_t i = 0; seen[i].name != NULL; i++)
         tell_entry(&seen[i]);

@@ -316,7 +316,7 @@ enum {
  *
  *     r3                          Given when
  *  0  ADK_OK                      success. r4: get capabilities, the offered bitmap; create guest, the guest's
- *                                 number; run, the exit reason; clock, the time
+ *                                 number; run, the exit reason; clock, the time; join, the joined length
  *  1  ADK_BAD_STORE               the store is not well formed; conversion: the source is not a well-formed small one
  *  2  ADK_BAD_FLAG                a flag bit is set that the call does not support. r4: the lowest-numbered such bit
  *  3  ADK_BAD_PARAMETER           the guest is not live; create guest: the token is not ADK_TOKEN; set capabilities:
@@ -324,18 +324,21 @@ enum {
  *  4  ADK_BAD_VCPU                the vCPU id is above ADK_VCPU_MAX, or (not when creating) the vCPU is absent
  *  5  ADK_BAD_LENGTH              the buffer has under ADK_BUFFER_MIN or over ADK_BUFFER_MAX bytes; never in a run.
  *                                 Taking a vCPU: under ADK_FORM_MAX; giving it back: under ADK_FORM_MIN. Conversion:
- *                                 the target has other than ADK_LARGE_STORE_SIZE bytes
+ *                                 the target has other than ADK_LARGE_STORE_SIZE bytes. Join: also if the joined buffer would
+ *                                 have over ADK_BUFFER_MAX bytes
  *  6  ADK_INVALID_ELEMENT_ID      get and set state, run input: an element's ID is not listed, of the wrong scope, not
  *                                 permitted in the call, or not offered to a POWER9 guest. r4: its index, from 0; r5:
  *                                 its byte offset; in a run input r4 is the offset and r5 the index. Lookup: no counted
  *                                 element has the ID. r4: the count
  *  7  ADK_INVALID_ELEMENT_SIZE    an element is cut off by the buffer's end; get and set state, run input: or its size
- *                                 is not the listed one. r4 and r5 as with 6; lookup: r4 the index, r5 the offset
+ *                                 is not the listed one. r4 and r5 as with 6; lookup and join: r4 the index, r5 the
+ *                                 offset
  *  8  ADK_INVALID_ELEMENT_VALUE   set state: an element's value breaks its rule. r4 and r5 as with 6
  *  9  ADK_NOT_ENOUGH_RESOURCES    no free guest number, or no free slot
  * 10  ADK_VCPU_EXISTS             the vCPU already exists
  * 11  ADK_NOT_REGISTERED          run: a run buffer is not registered. r4: 0 input, 1 output
- * 12  ADK_LENT_TOO_SHORT          run: a lent run buffer is shorter than registered. r4: 0 input, 1 output
+ * 12  ADK_LENT_TOO_SHORT          run: a lent run buffer is shorter than registered. r4: 0 input, 1 output. Join: the
+ *                                 result is too short. r4: 1
  * 13  ADK_UNKNOWN_EXIT            run: unknown exit reason
  * 14  ADK_BAD_EFFECT              run: the effect has under ADK_BUFFER_MIN or over ADK_BUFFER_MAX bytes, or a bad
  *                                 element. r4: the byte offset of its first bad element; r5: that one's index; both 0
@@ -542,6 +545,25 @@ adk_answer adk_convert(const uint8_t *small, size_t small_len, uint8_t *large, s
  * offset), ADK_INVALID_ELEMENT_ID (r4: the count), ADK_OK (at, len: the value; at is told for an empty value too).
  */
 adk_found adk_lookup(const uint8_t *buffer, size_t buffer_len, uint16_t id);
+
+/*
+ * Joins two guest state buffers into one. The result's first bytes become the sum of the counts, the counted elements
+ * of the first and then those of the second; bytes behind the counted elements of either are dropped, and the rest of
+ * the result stays. IDs and sizes are not judged, as in a lookup, but every counted element must lie within its buffer.
+ *
+ * A set state with the joined buffer, without ADK_HAND_OVER, leaves the store that two leave, first one with the first
+ * buffer and straight after it one with the second, if both are accepted; and it is accepted then. Joining is
+ * associative. Where the two buffers share no ID but the NOP's, either order gives the same store.
+ *
+ * result_len may be greater than ADK_BUFFER_MAX. A result of ADK_BUFFER_MAX bytes holds every joined buffer.
+ *
+ * Answers: ADK_BAD_LENGTH (of first, then of second), ADK_INVALID_ELEMENT_SIZE (of first, then of second; r4: the index
+ * of its first element that is cut off; r5: that one's byte offset), ADK_BAD_LENGTH (the joined buffer would have over
+ * ADK_BUFFER_MAX bytes), ADK_LENT_TOO_SHORT (r4 1: the result is shorter than the joined buffer), ADK_OK (r4: the
+ * length of the joined buffer).
+ */
+adk_answer adk_join(const uint8_t *first, size_t first_len, const uint8_t *second, size_t second_len, uint8_t *result,
+                    size_t result_len);
 
 #ifdef __cplusplus
 }

@@ -4,13 +4,14 @@ use mathlib.Core.List.{List, []}
 use Prim.Native.Nat.{ℕ}
 use Rattle.answer.specs.declared.Answer.{Answer}
 use Rattle.answer.specs.declared.Call.{Call}
-use Rattle.answer.specs.declared.Call.the-variants.{Lookup}
+use Rattle.answer.specs.declared.Call.the-variants.{Lookup, Join}
 use Rattle.answer.specs.declared.Registers.{Registers}
 use Rattle.answer.specs.Answer.{told}
 use Rattle.admission.specs.Refusals.{Outcome}
 use Rattle.gsb.specs.declared.lookups.Found.{Found as Looked}
+use Rattle.gsb.specs.Join.{Joining}
 use Rattle.adderknot.specs.declared.Found.{Found}
-use Rattle.adderknot.specs.Entries.{Left, tells, leaves, Filled, fills, foundAt}
+use Rattle.adderknot.specs.Entries.{Left, tells, leaves, Filled, fills, foundAt, Wrote, writes}
 
 module _ (c : Call) (r : Registers) (a : Answer) (s : List ℕ) (o : Outcome) (e : _≡_ {A = Outcome} (record { answer = a; store = s; buffer = [] }) o) (h : r ≡ told c (a .fault) (a .value)) where
   pub told-numbers : r ≡ tells c o
@@ -26,3 +27,7 @@ told-filled c r a s b o e h = ap (λ (x : Registers). record { registers = x; st
 pub told-found : (t : Registers) (f x : Looked) → f ≡ x → t ≡ told Lookup (f .answer .fault) (f .answer .value)
     → _≡_ {A = Found} (record { r3 = t .r3; r4 = t .r4; r5 = t .r5; at = f .at; len = f .len }) (foundAt x)
 told-found t f x e h = ap (λ (y : Registers). record { r3 = y .r3; r4 = y .r4; r5 = y .r5; at = f .at; len = f .len }) h ∙ ap foundAt e
+
+pub told-written : (t : Registers) (a : Answer) (r : List ℕ) (j : Joining) → _≡_ {A = Joining} (record { answer = a; result = r }) j → t ≡ told Join (a .fault) (a .value)
+    → _≡_ {A = Wrote} (record { registers = t; result = r }) (writes j)
+told-written t a r j e h = ap (λ (x : Registers). record { registers = x; result = r }) h ∙ ap writes e

@@ -2,10 +2,11 @@
 use Prim.Native.Nat.{ℕ}
 use mathlib.Core.List.{List}
 use Rattle.answer.specs.declared.Call.{Call}
-use Rattle.answer.specs.declared.Call.the-variants.{Lookup}
+use Rattle.answer.specs.declared.Call.the-variants.{Lookup, Join}
 use Rattle.answer.specs.declared.Registers.{Registers}
 use Rattle.answer.specs.Answer.{told}
 use Rattle.gsb.specs.declared.lookups.Found.{Found as Looked}
+use Rattle.gsb.specs.Join.{Joining}
 use Rattle.admission.specs.Refusals.{Outcome}
 use Rattle.adderknot.specs.declared.Found.{Found}
 
@@ -38,3 +39,11 @@ foundAt f = record {
   at = f .at;
   len = f .len;
 }
+
+-- of a join, which is lent no store: the result
+pub record Wrote : Type 0 where
+  pub registers : Registers
+  pub result : List ℕ
+
+abbrev pub writes : Joining → Wrote
+writes j = record { registers = told Join (j .answer .fault) (j .answer .value); result = j .result }

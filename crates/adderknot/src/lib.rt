@@ -8,11 +8,12 @@ ghost use Rattle.answer.specs.declared.Call.{Call};
 ghost use Rattle.answer.specs.Answer.{told};
 ghost use Rattle.store.specs.Layout.{layoutOf};
 ghost use Rattle.gsb.specs.Lookup.{lookedUp};
+ghost use Rattle.gsb.specs.Join.{joinInto};
 ghost use Rattle.state.specs.State.{getState, setState};
 ghost use Rattle.run.specs.Run.{runVcpu};
 ghost use Rattle.guests.specs.Guests.{createGuest, createVcpu, deleteGuest};
 ghost use Rattle.l0.specs.Calls.{freshStore, getCapabilities, setCapabilities, guestClock, convert};
-ghost use Rattle.adderknot.specs.Entries.{Left, leaves, Filled, fills, tells, foundAt};
+ghost use Rattle.adderknot.specs.Entries.{Left, leaves, Filled, fills, tells, foundAt, Wrote, writes};
 
 #[no_mangle]
 pub extern "C" fn adk_fresh_store(store: &mut [u8]) -> Registers
@@ -160,4 +161,11 @@ pub extern "C" fn adk_lookup(buffer: &[u8], id: u16) -> Found
         at: found.at as u64,
         len: found.len as u64,
     }
+}
+
+#[no_mangle]
+pub extern "C" fn adk_join(first: &[u8], second: &[u8], result: &mut [u8]) -> Registers
+    ensures { λ r. ⌜ _≡_ {A = Wrote} (record { registers = r; result = now (result .exit) }) (writes (joinInto (now (first .entry)) (now (second .entry)) (now (result .entry)))) ⌝ }
+{
+    registers_of(Call::Join, gsb::join(first, second, result))
 }

@@ -14,7 +14,7 @@ use Rattle.elements.specs.Table.{table, find, kindOf, sourceOf, position, below
 use Rattle.rules.specs.Rules.{allows, permits}
 use Rattle.gsb.specs.declared.Walked.the-variants.{Done}
 use Rattle.gsb.specs.Walk.{countOf, firstBad}
-use Rattle.gsb.specs.Message.{elementsBytes, message, Begins, Wire}
+use Rattle.gsb.specs.Message.{elementsBytes, message, Begins, Wire, elementsIn}
 use Rattle.gsb.proofs.Messages.{length-message}
 use Rattle.gsb.proofs.RoundTrip.{begins-is, begins-first, message-count, message-id, message-value}
 use Rattle.transfer.specs.Transfer.{applied}
@@ -26,7 +26,7 @@ use Rattle.elements.specs.declared.Offer.the-variants.{Full, Power9}
 use Rattle.elements.specs.Later.{later, isLater, offers}
 use Rattle.l1.specs.Marks.{Cache, changed, isInput}
 use Rattle.l1.specs.Cache.{chosen, inputs, pending, Fit}
-use Rattle.agreement.specs.Agree.{newest, inOrder, elementsIn, Holds}
+use Rattle.agreement.specs.Agree.{newest, inOrder, Holds}
 use Rattle.l1.proofs.Sent.{fit-append, fit-wire, fit-good}
 use Rattle.l1.proofs.Cells.{input-named, all-weight}
 use Rattle.l1.proofs.Pending.{weighed}

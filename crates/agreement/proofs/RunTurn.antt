@@ -22,7 +22,7 @@ use Rattle.rules.specs.declared.Usage.the-variants.{RunInput, Effect as InEffec
 use Rattle.rules.specs.Rules.{goodInput, goodOutput}
 use Rattle.gsb.specs.declared.Walked.{Walked}
 use Rattle.gsb.specs.declared.Walked.the-variants.{Done, Stopped}
-use Rattle.gsb.specs.Walk.{countOf, badLength, firstBad}
+use Rattle.gsb.specs.Walk.{countOf, badLength, firstBad, isStopped, faultOf}
 use Rattle.gsb.specs.Message.{message, Begins}
 use Rattle.gsb.proofs.RoundTrip.{begins-self, begins-put, begins-first, zeros-good}
 use Rattle.store.specs.declared.Layout.{Layout}
@@ -37,7 +37,7 @@ use Rattle.exits.proofs.Rows.{length-output, output-short, returned-few}
 use Rattle.admission.specs.declared.Admission.{Admission}
 use Rattle.admission.specs.declared.Admission.the-variants.{Admitted, Refused}
 use Rattle.admission.specs.Refusals.{Outcome, success, refusal, refuse, decide, judgement, unsupported}
-use Rattle.state.specs.State.{pvrOf, contextOf, isStopped, faultOf}
+use Rattle.state.specs.State.{pvrOf, contextOf}
 use Rattle.run.specs.Run.{runBits, inputSize, outputSize, lentTests, effectFault, exitTests, runTargetTests, inputOf, contentTests, ranStore, ran, runVcpu}
 use Rattle.admission.proofs.Judging.{begin-refused, begin-admitted, all-refused, all-admitted, judged-passed}
 use Rattle.promises.proofs.Kept.{applied-header, applied-kept}

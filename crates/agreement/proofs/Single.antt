@@ -19,7 +19,7 @@ use Rattle.rules.specs.Rules.{sizeFits, goodValue}
 use Rattle.rules.proofs.Rules.{value-get, value-run}
 use Rattle.gsb.specs.declared.Walked.{Walked}
 use Rattle.gsb.specs.declared.Walked.the-variants.{Done, Stopped}
-use Rattle.gsb.specs.Walk.{countOf, firstBad}
+use Rattle.gsb.specs.Walk.{countOf, firstBad, isStopped, faultOf}
 use Rattle.gsb.specs.Message.{firstPlace}
 use Rattle.gsb.proofs.RoundTrip.{begins-self, wire-one, one-bad-length, one-element}
 use Rattle.elements.specs.declared.Offer.{Offer}
@@ -33,7 +33,7 @@ use Rattle.transfer.proofs.Messages.{place-cons, place-nil, applied-message, th
 use Rattle.exits.specs.Exits.{elementOf}
 use Rattle.admission.specs.Refusals.{accept, refuse, decide, bit1}
 use Rattle.admission.specs.Target.{targetTests, baseOf}
-use Rattle.state.specs.State.{contextOf, isStopped, faultOf, bufferTests, setElements, setState, fillWith, getElements, getState}
+use Rattle.state.specs.State.{contextOf, bufferTests, setElements, setState, fillWith, getElements, getState}
 use Rattle.promises.proofs.States.{skip}
 use Rattle.l1.specs.Marks.{allowed, isInput, isReadable, isSpecial}
 use Rattle.l1.specs.Cache.{placeZero, one, valueIn}

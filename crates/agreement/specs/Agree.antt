@@ -13,8 +13,8 @@ use Rattle.answer.specs.declared.Registers.{Registers}
 use Rattle.answer.specs.Answer.{three, told, accepted}
 use Rattle.elements.specs.Table.{threadElement}
 use Rattle.rules.specs.Rules.{between, goodInput, goodOutput}
-use Rattle.gsb.specs.Walk.{countOf, idAt, sizeAt, offsetAt}
-use Rattle.gsb.specs.Message.{message}
+use Rattle.gsb.specs.Walk.{countOf}
+use Rattle.gsb.specs.Message.{message, elementsIn}
 use Rattle.store.specs.declared.Layout.{Layout}
 use Rattle.store.specs.Layout.{slotBytes}
 use Rattle.store.specs.Header.{header, slotOf}
@@ -122,11 +122,6 @@ inOrder ws zero = []
 inOrder ws (suc n) = inOrder ws n ++ newest ws (threadElement n .id)
 
 -- ---- Demand 3: "The cache's input for that run then holds a count and exactly the elements"
--- the first n elements of a buffer, each its ID and its value
-unfoldable pub elementsIn : List ℕ → ℕ → List (ℕ × List ℕ)
-elementsIn b zero = []
-elementsIn b (suc n) = elementsIn b n ++ ((idAt b (offsetAt b n), bytesAt b (offsetAt b n + 4) (sizeAt b (offsetAt b n))) ∷ [])
-
 -- b, the lent input after the run, holds es. 01, "Run": "The input is the first bytes of the lent one, as many as registered."
 pub record Holds (lent : List ℕ) (registered : ℕ) (es : List (ℕ × List ℕ)) (b : List ℕ) : Type 0 where
   -- a count and es in its first bytes, the rest as lent

@@ -10,7 +10,7 @@ use Rattle.answer.specs.declared.RunBuffer.the-variants.{Input, Output}
 use Rattle.answer.specs.declared.Fault.{Fault}
 use Rattle.answer.specs.declared.Fault.the-variants.{None, Store, Flag, Guest, Token, Capability, Vcpu, Length, Element, Room, Exists, Unregistered, Short, Exit, Effect, Cache, Taken, Form, InUse}
 use Rattle.answer.specs.declared.Call.{Call}
-use Rattle.answer.specs.declared.Call.the-variants.{FreshStore, GetCapabilities, SetCapabilities, CreateGuest, CreateVcpu, GetState, SetState, RunVcpu, DeleteGuest, GuestClock, Convert, Lookup, CacheWrite, CacheRead, CacheRun}
+use Rattle.answer.specs.declared.Call.the-variants.{FreshStore, GetCapabilities, SetCapabilities, CreateGuest, CreateVcpu, GetState, SetState, RunVcpu, DeleteGuest, GuestClock, Convert, Lookup, Join, CacheWrite, CacheRead, CacheRun}
 use Rattle.answer.specs.declared.Shown.{Shown}
 use Rattle.answer.specs.declared.Registers.{Registers}
 
@@ -37,7 +37,8 @@ offsetFirst p = record { r4 = p .offset; r5 = p .index }
 abbrev pub noPlace : Shown
 noPlace = record { r4 = 0; r5 = 0 }
 
--- which of them is which call's: a cache's run is a run, and the calls without a buffer have no place either
+-- which of them is which call's: a cache's run is a run, and the calls without a buffer have no place either. 02, L8: of a join "with its index
+-- and offset"
 abbrev pub placeShown : Call → Place → Shown
 placeShown FreshStore p = noPlace
 placeShown GetCapabilities p = noPlace
@@ -51,6 +52,7 @@ placeShown DeleteGuest p = noPlace
 placeShown GuestClock p = noPlace
 placeShown Convert p = noPlace
 placeShown Lookup p = indexFirst p
+placeShown Join p = indexFirst p
 placeShown CacheWrite p = noPlace
 placeShown CacheRead p = noPlace
 placeShown CacheRun p = offsetFirst p

@@ -1,14 +1,19 @@
 -- The second list is right: `later-right`, computed; and the code's six tests are that list. Assumes nothing.
-use mathlib.Core.Path.{_≡_, refl, ap, ap₂, _∙_}
+use mathlib.Core.Path.{_≡_, refl, sym, ap, ap₂, _∙_}
 use mathlib.Core.Bool.{Bool, true, false, not, _&&_, _||_}
 use Prim.Native.Nat.{ℕ, _≤_, _<_}
 use native.Mathlib.Omega.{arith}
 use lib.Dec.{leb}
 use borrow.Author.Tests.{lt-leb}
+use Rattle.elements.specs.declared.Scope.{Scope}
+use Rattle.elements.specs.declared.Scope.the-variants.{Guest, Thread}
+use Rattle.elements.specs.declared.Entry.{Entry}
+use Rattle.elements.specs.declared.Kind.the-variants.{Listed}
 use Rattle.elements.specs.declared.Offer.{Offer}
 use Rattle.elements.specs.declared.Offer.the-variants.{Full, Power9}
-use Rattle.elements.specs.Table.{table, find, kindOf, sourceOf, position, below, numbered, threadElement}
+use Rattle.elements.specs.Table.{sameScope, table, find, kindOf, sourceOf, position, below, numbered, threadElement}
 use Rattle.elements.specs.Later.{later, isLater, offers, LaterRight}
+use Rattle.elements.proofs.Table.{T-true, entry-rule}
 
 pub later-right : LaterRight
 unfolding later isLater kindOf find table sourceOf position below threadElement numbered
@@ -56,3 +61,15 @@ pub above-later : (o : Offer) (id : ℕ) → 0x3000 ≤ id → offers o id ≡ t
 unfolding offers
 above-later Full id h = refl
 above-later Power9 id h = ap not (not-later id h)
+
+-- what came later are thread elements: both lists have every element of a guest
+not-of-guest : (id : ℕ) (x : Entry) → kindOf id ≡ Listed x → x .scope ≡ Guest → not (isLater id) ≡ true
+unfolding later isLater kindOf find table sourceOf position below
+not-of-guest id x e g =
+    ap (λ (s : Scope). sameScope Thread s || not (isLater id)) (sym g)
+    ∙ T-true _ (entry-rule (λ (i : ℕ) (y : Entry). sameScope Thread (y .scope) || not (isLater i)) tt id x e)
+
+pub guest-offered : (o : Offer) (id : ℕ) (x : Entry) → kindOf id ≡ Listed x → x .scope ≡ Guest → offers o id ≡ true
+unfolding offers
+guest-offered Full id x e g = refl
+guest-offered Power9 id x e g = not-of-guest id x e g

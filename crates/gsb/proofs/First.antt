@@ -9,13 +9,18 @@ use native.Mathlib.Decide.{decLt}
 use native.Mathlib.Omega.{arith}
 use Rattle.answer.specs.declared.Bad.{Bad}
 use Rattle.answer.specs.declared.Place.{Place}
+use Rattle.elements.specs.declared.Scope.the-variants.{Guest}
+use Rattle.elements.specs.declared.Offer.{Offer}
+use Rattle.rules.specs.declared.Usage.{Usage}
 use Rattle.rules.specs.declared.Context.{Context}
+use Rattle.rules.specs.Rules.{scopeFor}
+use Rattle.rules.proofs.Lists.{by, guest-permits}
 use Rattle.gsb.specs.declared.Verdict.{Verdict}
 use Rattle.gsb.specs.declared.Verdict.the-variants.{Good, Faulty}
 use Rattle.gsb.specs.declared.Walked.the-variants.{Done, Stopped}
 use Rattle.gsb.specs.Walk.{countOf, offsetAt, judged, walkOn, walk, firstBad}
 use Rattle.gsb.specs.First.{Leads, FirstBadAt, AllGood}
-use Rattle.gsb.proofs.Judged.{GoodElement, good-element}
+use Rattle.gsb.proofs.Judged.{GoodElement, good-element, judged-lists}
 use Rattle.gsb.proofs.Walks.{walk-end, walk-good, walk-bad, after-good, after-bad, offset-start, offset-next, walk-start}
 
 -- the first bad element of n that follow one another from index i on, and what is wrong with it
@@ -141,3 +146,9 @@ all-good k b = accepted-exactly (judged k b) b (judged-leads k b)
 -- each element of an accepted buffer is good
 pub element-good : (k : Context) (b : List ℕ) → firstBad k b ≡ Done → (i : ℕ) → i < countOf b → GoodElement k b (offsetAt b i)
 element-good k b d i h = good-element k b (offsetAt b i) (offsetAt b (i + 1)) (all-good k b .0 d i h) .0
+
+-- guest-wide the guest's list makes no difference
+pub guest-good : (usage : Usage) (c : ℕ) (o p : Offer) → scopeFor usage ≡ Guest → (b : List ℕ) → firstBad (by usage c o) b ≡ Done → firstBad (by usage c p) b ≡ Done
+guest-good usage c o p g b d =
+    all-good (by usage c p) b .1
+    (λ j l. sym (judged-lists usage c o p (guest-permits usage c o p g) b (offsetAt b j)) ∙ all-good (by usage c o) b .0 d j l)

@@ -7,16 +7,20 @@ use native.Mathlib.Omega.{arith}
 use lib.Dec.{ltb}
 use lib.ListN.{length}
 use borrow.Author.Tests.{lt-ltb, le-ltb, ltb-false, not-false}
-use Rattle.octets.specs.Bytes.{be}
+use Rattle.octets.specs.Bytes.{bytesAt, be}
 use Rattle.octets.proofs.Numbers.{be-add}
 use Rattle.answer.specs.declared.Bad.{Bad}
 use Rattle.answer.specs.declared.Bad.the-variants.{Id, Size, Value}
 use Rattle.answer.specs.Refusals.{firstOf}
+use Rattle.elements.specs.declared.Offer.{Offer}
 use Rattle.elements.specs.declared.Kind.{Kind}
 use Rattle.elements.specs.declared.Kind.the-variants.{Nop}
+use Rattle.rules.specs.declared.Usage.{Usage}
 use Rattle.rules.specs.declared.Context.{Context}
 use Rattle.elements.specs.Table.{kindOf}
 use Rattle.rules.specs.Rules.{permits, sizeFits, isSetting, ruleOf, goodValue}
+use Rattle.rules.proofs.Lists.{by}
+use Rattle.rules.proofs.Alike.{value-alike}
 use Rattle.gsb.specs.declared.Verdict.{Verdict}
 use Rattle.gsb.specs.declared.Verdict.the-variants.{Good, Faulty}
 use Rattle.gsb.specs.Walk.{idAt, sizeAt, nextAt, judged}
@@ -142,3 +146,31 @@ pub good-inside : (k : Context) (b : List ℕ) (at next : ℕ) (v : Verdict) →
 good-inside k b at next v j g =
     let p = good-element k b at next (sym j ∙ g) in
     omega (arith, p .0 .inside, p .1)
+
+-- ---- an element is judged alike
+-- by two lists that permit the same
+pub judged-lists : (usage : Usage) (c : ℕ) (o p : Offer) → ((id : ℕ) → permits (by usage c o) id (kindOf id) ≡ permits (by usage c p) id (kindOf id))
+    → (b : List ℕ) (at : ℕ) → judged (by usage c o) b at ≡ judged (by usage c p) b at
+unfolding judged goodValue
+judged-lists usage c o p same b at =
+    ap (λ (t : Bool). firstOf Faulty
+    ((ltb (length b) (at + 4), Size)
+    ∷ (not t, Id)
+    ∷ (not (sizeFits (kindOf (idAt b at)) (sizeAt b at)), Size)
+    ∷ (ltb (length b) (nextAt b at), Size)
+    ∷ (not (goodValue (by usage c o) (idAt b at) b (at + 4)), Value)
+    ∷ [])
+    (Good (nextAt b at))) (same (idAt b at))
+
+-- a good one is good where its bytes stand in another buffer
+pub good-there : (k : Context) (j : List ℕ) (to : ℕ) (b : List ℕ) (at : ℕ) → GoodElement k b at → idAt j to ≡ idAt b at → sizeAt j to ≡ sizeAt b at
+    → bytesAt j (to + 4) (sizeAt j to) ≡ bytesAt b (at + 4) (sizeAt b at) → nextAt j to ≤ length j → judged k j to ≡ Good (nextAt j to)
+good-there k j to b at g i s v h =
+    sym (judged-good k j to (idAt b at) (sizeAt j to) (kindOf (idAt b at)) (omega arith) (sym i) refl refl
+    true (sym (g .permitted)) refl true (sym fits) refl (omega arith) true (sym value) refl)
+  where
+    fits : sizeFits (kindOf (idAt b at)) (sizeAt j to) ≡ true
+    fits = ap (sizeFits (kindOf (idAt b at))) s ∙ g .sized
+
+    value : goodValue k (idAt b at) j (to + 4) ≡ true
+    value = value-alike k (idAt b at) j (to + 4) b (at + 4) (sizeAt j to) (v ∙ ap (bytesAt b (at + 4)) (sym s)) fits ∙ g .value

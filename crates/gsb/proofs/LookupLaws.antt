@@ -78,6 +78,12 @@ framed-known size low high far x y z few b at key r room k i p q =
     let n : at + far ≡ at + 4 + size = omega arith in
     ap Good n ∙ framed-good b at size (omega arith) (omega arith) (omega arith)
 
+-- the same of a size that was read
+pub framed-told : (size far : ℕ) → far ≡ 4 + size → size ≤ 16 → (b : List ℕ) (at n : ℕ) → 20 ≤ length b - at → n ≡ sizeAt b at → n ≡ size → Good (at + far) ≡ framed b at
+framed-told size far z few b at n room e q =
+    let s : at + far ≡ at + 4 + n = omega arith in
+    ap Good s ∙ framed-good b at n (omega arith) e (omega arith)
+
 -- ---- the last element with an ID
 module _ (b : List ℕ) (id i at : ℕ) (last found : Last) where
   -- a turn of the loop: one element more

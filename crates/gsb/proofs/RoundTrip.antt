@@ -58,7 +58,7 @@ module _ (b : List ℕ) (at : ℕ) (v w : List ℕ) (s : Stands b at (v ++ w)) w
   long : length (v ++ w) ≡ length v + length w
   long = length-append v w
 
-  stands-left : Stands b at v
+  pub stands-left : Stands b at v
   stands-left = record {
     within = omega (arith, s .within, long);
     same =
@@ -70,7 +70,7 @@ module _ (b : List ℕ) (at : ℕ) (v w : List ℕ) (s : Stands b at (v ++ w)) w
         ∙ take-append-seam v w);
   }
 
-  stands-right : Stands b (at + length v) w
+  pub stands-right : Stands b (at + length v) w
   stands-right = record {
     within = omega (arith, s .within, long);
     same =
@@ -82,7 +82,7 @@ module _ (b : List ℕ) (at : ℕ) (v w : List ℕ) (s : Stands b at (v ++ w)) w
   }
 
 -- a number that stands in a buffer is read
-stands-number : (b : List ℕ) (at n x : ℕ) → Stands b at (digits n x) → x < 256 ^ n → be b at n ≡ x
+pub stands-number : (b : List ℕ) (at n x : ℕ) → Stands b at (digits n x) → x < 256 ^ n → be b at n ≡ x
 stands-number b at n x s h =
     let z : at ≡ at + 0 = omega arith in
     ap (λ (i : ℕ). be b i n) z

@@ -2,12 +2,13 @@
 use mathlib.Core.Path.{_≡_, refl, sym, ap, _∙_}
 use mathlib.Core.Bool.{Bool, true, false, _||_, true≢false}
 use mathlib.Core.List.{List}
-use Prim.Native.Nat.{ℕ, suc, _+_, _-_, _≤_, _<_}
+use Prim.Native.Nat.{ℕ, zero, suc, _+_, _-_, _*_, _≤_, _<_}
 use native.Mathlib.Numerals.{add-one}
+use native.Mathlib.Decide.{decLe}
 use native.Mathlib.Omega.{arith}
 use lib.Dec.{ltb}
 use lib.ListN.{length}
-use borrow.Author.Tests.{ltb-false}
+use borrow.Author.Tests.{le-ltb, ltb-false}
 use Rattle.answer.specs.declared.Bad.{Bad}
 use Rattle.rules.specs.declared.Context.{Context}
 use Rattle.gsb.specs.declared.Verdict.{Verdict}
@@ -85,10 +86,36 @@ pub offset-start : (b : List ℕ) → 4 ≡ offsetAt b 0
 unfolding offsetAt
 offset-start b = refl
 
--- a buffer whose length is good has a count
-pub long-enough : (b : List ℕ) (t : Bool) → t ≡ badLength b → t ≡ false → 4 ≤ length b
-long-enough b t e h = go (ltb (length b) 4) refl (sym e ∙ h)
+-- one element more
+pub offset-suc : (b : List ℕ) (i : ℕ) → offsetAt b (suc i) ≡ nextAt b (offsetAt b i)
+unfolding offsetAt
+offset-suc b i = refl
+
+-- offsets only grow: each element takes a header at least
+pub offset-low : (b : List ℕ) (i : ℕ) → 4 ≤ offsetAt b i
+offset-low b zero = omega (arith, offset-start b)
+offset-low b (suc i) = omega (arith, offset-low b i, offset-suc b i)
+
+pub offset-up : (b : List ℕ) (i m : ℕ) → i ≤ m → offsetAt b i + 4 * (m - i) ≤ offsetAt b m
+offset-up b i zero h = let z : i ≡ 0 = omega arith in let e : offsetAt b i ≡ offsetAt b 0 = ap (offsetAt b) z in omega arith
+offset-up b i (suc m) h = go (decLe i m) (offset-up b i m)
   where
-    go : (s : Bool) → ltb (length b) 4 ≡ s → (s || ltb 65536 (length b)) ≡ false → 4 ≤ length b
-    go true p q = let z : true ≡ false = q in absurd (true≢false z)
-    go false p q = ltb-false _ _ p
+    go : Dec (i ≤ m) → (i ≤ m → offsetAt b i + 4 * (m - i) ≤ offsetAt b m) → offsetAt b i + 4 * (suc m - i) ≤ offsetAt b (suc m)
+    go (yes k) ih = omega (arith, ih k, offset-suc b m)
+    go (no k) ih = let z : i ≡ suc m = omega arith in let e : offsetAt b i ≡ offsetAt b (suc m) = ap (offsetAt b) z in omega arith
+
+-- ---- a buffer whose length is good
+pub length-bounds : (b : List ℕ) → badLength b ≡ false → (4 ≤ length b) × (length b ≤ 65536)
+length-bounds b = go (ltb (length b) 4) (ltb 65536 (length b)) refl refl
+  where
+    go : (s t : Bool) → ltb (length b) 4 ≡ s → ltb 65536 (length b) ≡ t → (s || t) ≡ false → (4 ≤ length b) × (length b ≤ 65536)
+    go true t p q e = absurd (true≢false e)
+    go false true p q e = absurd (true≢false e)
+    go false false p q e = (ltb-false _ _ p, ltb-false _ _ q)
+
+pub bounds-length : (b : List ℕ) → 4 ≤ length b → length b ≤ 65536 → badLength b ≡ false
+bounds-length b h k = simp (le-ltb _ _ h, le-ltb _ _ k)
+
+-- it has a count
+pub long-enough : (b : List ℕ) (t : Bool) → t ≡ badLength b → t ≡ false → 4 ≤ length b
+long-enough b t e h = length-bounds b (sym e ∙ h) .0

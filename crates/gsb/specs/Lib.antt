@@ -1,5 +1,6 @@
 pub mod Walk
 pub mod First
 pub mod Message
-pub mod Private
 pub mod Lookup
+pub mod Join
+pub mod Private

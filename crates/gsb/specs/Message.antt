@@ -1,10 +1,11 @@
 -- 01, "Run" and "The L1 cache": "a count and elements", as they are written to the first bytes of a run's output or input.
-use Prim.Native.Nat.{ℕ, _+_, _^_, _≤_, _<_}
+use Prim.Native.Nat.{ℕ, zero, suc, _+_, _^_, _≤_, _<_}
 use mathlib.Core.Path.{_≡_}
 use mathlib.Core.List.{List, [], _∷_, _++_}
 use lib.ListN.{length, getD}
 use Rattle.octets.specs.Bytes.{bytesAt, digits}
 use Rattle.answer.specs.declared.Place.{Place}
+use Rattle.gsb.specs.Walk.{idAt, sizeAt, offsetAt}
 
 -- 01, "The guest state buffer": "2 bytes ID, 2 bytes size, value"
 unfoldable pub elementBytes : ℕ → List ℕ → List ℕ
@@ -41,6 +42,11 @@ pub record Wire (es : List (ℕ × List ℕ)) : Type 0 where
   pub count : length es < 2 ^ 32
   pub ids : (i : ℕ) → i < length es → nthId es i < 2 ^ 16
   pub sizes : (i : ℕ) → i < length es → length (nthValue es i) < 2 ^ 16
+
+-- the first n elements of a buffer, each its ID and its value
+unfoldable pub elementsIn : List ℕ → ℕ → List (ℕ × List ℕ)
+elementsIn b zero = []
+elementsIn b (suc n) = elementsIn b n ++ ((idAt b (offsetAt b n), bytesAt b (offsetAt b n + 4) (sizeAt b (offsetAt b n))) ∷ [])
 
 -- where the first element lies: index 0, behind the count
 abbrev pub firstPlace : Place

@@ -1,11 +1,13 @@
 -- 01, "The guest state buffer": four bytes of count, then elements: 2 bytes ID, 2 bytes size, value.
 use Prim.Native.Nat.{ℕ, zero, suc, _+_}
-use mathlib.Core.Bool.{Bool, not, _||_}
+use mathlib.Core.Bool.{Bool, true, false, not, _||_}
 use mathlib.Core.List.{List, [], _∷_}
 use lib.Dec.{ltb}
 use lib.ListN.{length}
 use Rattle.octets.specs.Bytes.{be}
 use Rattle.answer.specs.declared.Bad.the-variants.{Id, Size, Value}
+use Rattle.answer.specs.declared.Fault.{Fault}
+use Rattle.answer.specs.declared.Fault.the-variants.{None, Element}
 use Rattle.answer.specs.Refusals.{firstOf}
 use Rattle.rules.specs.declared.Context.{Context}
 use Rattle.elements.specs.Table.{kindOf}
@@ -63,3 +65,12 @@ walk judge (suc n) index at = walkOn (judge at) index at (λ next. walk judge n 
 -- all that are counted
 unfoldable pub firstBad : Context → List ℕ → Walked
 firstBad k b = walk (judged k b) (countOf b) 0 4
+
+-- 01, "Answers", 6, 7 and 8 with the place: whether a walk refuses the call, and the fault that it tells
+abbrev pub isStopped : Walked → Bool
+isStopped Done = false
+isStopped (Stopped bad place) = true
+
+abbrev pub faultOf : Walked → Fault
+faultOf Done = None
+faultOf (Stopped bad place) = Element bad place

@@ -1,5 +1,7 @@
 // The guest state buffer: one element judged, and one written. `walk` judges all that are counted; what the three mean is
 // defined here.
+mod framing;
+mod joining;
 mod judging;
 mod lookups;
 mod walk;
@@ -7,6 +9,8 @@ mod write;
 
 use answer::Bad;
 use answer::Place;
+pub use joining::Extent;
+pub use joining::join;
 pub use judging::bad_length;
 pub use judging::judge;
 pub use lookups::Found;

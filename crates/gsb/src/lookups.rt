@@ -1,23 +1,22 @@
 // The lookup of an ID in a buffer. It frames the elements and does not judge them.
 use super::Verdict;
 use super::bad_length;
+use super::framing::frame;
 use answer::Answer;
 use answer::Bad;
 use answer::Fault;
 use answer::Place;
 use answer::refusal;
 use answer::success;
-use octets::get_turned;
 use octets::get16;
 use octets::get32;
-use rules::within;
 ghost use mathlib.Core.Path.{_≡_};
 ghost use mathlib.Core.Bool.{cond};
 ghost use Prim.Native.Nat.{_+_, _≤_, _<_};
 ghost use lib.Dec.{eqb};
 ghost use lib.ListN.{length};
 ghost use Rattle.gsb.specs.Walk.{idAt};
-ghost use Rattle.gsb.specs.Lookup.{framed, notFound, Inside, partOf, lookedUp, valueOf};
+ghost use Rattle.gsb.specs.Lookup.{notFound, Inside, partOf, lookedUp, valueOf};
 
 // The last element so far that has an ID, by its offset.
 pub enum Last {
@@ -30,38 +29,6 @@ pub struct Found {
     pub answer: Answer,
     pub at: usize,
     pub len: usize,
-}
-
-fn frame_any(b: &[u8], at: usize) -> Verdict
-    requires { ⌜ at ≤ length (now b) ⌝ }
-    ensures { λ r. ⌜ r ≡ framed (now (b .entry)) at ⌝ }
-{
-    if b.len() - at < 4 {
-        return Verdict::Faulty(Bad::Size);
-    }
-    let size = get16(b, at + 2) as usize;
-    if b.len() - at - 4 < size {
-        return Verdict::Faulty(Bad::Size);
-    }
-    Verdict::Good(at + 4 + size)
-}
-
-// The sizes of nearly all elements are told by the number above them, so that the next element does not wait for this one's.
-fn frame(b: &[u8], at: usize) -> Verdict
-    requires { ⌜ at ≤ length (now b) ⌝ }
-    ensures { λ r. ⌜ r ≡ framed (now (b .entry)) at ⌝ }
-{
-    if b.len() - at < 20 {
-        return frame_any(b, at);
-    }
-    let key = get_turned(b, at) as u64;
-    if within(0x8_0000, 0x8_FFFF, key) {
-        return Verdict::Good(at + 12);
-    }
-    if within(0x10_0000, 0x10_FFFF, key) {
-        return Verdict::Good(at + 20);
-    }
-    frame_any(b, at)
 }
 
 fn later(b: &[u8], id: u16, at: usize, last: Last) -> Last

@@ -23,7 +23,7 @@ use Rattle.rules.specs.declared.Usage.the-variants.{RunInput, Effect as InEffec
 use Rattle.rules.specs.declared.Context.{Context}
 use Rattle.gsb.specs.declared.Walked.{Walked}
 use Rattle.gsb.specs.declared.Walked.the-variants.{Done, Stopped}
-use Rattle.gsb.specs.Walk.{countOf, badLength, firstBad}
+use Rattle.gsb.specs.Walk.{countOf, badLength, firstBad, isStopped, faultOf}
 use Rattle.gsb.specs.Message.{message, Begins}
 use Rattle.gsb.proofs.Messages.{length-message}
 use Rattle.gsb.proofs.Walks.{long-enough}
@@ -43,7 +43,7 @@ use Rattle.admission.specs.declared.Admission.the-variants.{Admitted, Refused}
 use Rattle.admission.specs.Refusals.{refusal, refuse, decide, judgement, Passed, success}
 use Rattle.admission.specs.Target.{baseOf}
 use Rattle.admission.proofs.Judging.{begin-refused, begin-admitted, all-refused, all-admitted, was-refused, was-admitted, judged-passed}
-use Rattle.state.specs.State.{contextOf, isStopped, faultOf}
+use Rattle.state.specs.State.{contextOf}
 use Rattle.state.proofs.Buffers.{ready-as}
 use Rattle.run.specs.declared.RunTarget.{RunTarget}
 use Rattle.run.specs.declared.RunTarget.the-variants.{Refused as RunRefused, Slot}

@@ -13,3 +13,6 @@ pub mod Apart
 pub mod Pvr
 pub mod Lists
 pub mod Both
+pub mod Either
+pub mod Joining
+pub mod JoinEdges

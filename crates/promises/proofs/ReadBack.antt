@@ -25,7 +25,7 @@ use Rattle.elements.proofs.Table.{nop-zero, listed-stored, position-end}
 use Rattle.rules.proofs.Rules.{permits-listed, permits-scope, setting-stored, size-fits}
 use Rattle.gsb.specs.declared.Walked.{Walked}
 use Rattle.gsb.specs.declared.Walked.the-variants.{Done, Stopped}
-use Rattle.gsb.specs.Walk.{countOf, idAt, sizeAt, offsetAt, firstBad}
+use Rattle.gsb.specs.Walk.{countOf, idAt, sizeAt, offsetAt, firstBad, isStopped, faultOf}
 use Rattle.gsb.proofs.Judged.{GoodElement, good-element}
 use Rattle.gsb.proofs.First.{all-good}
 use Rattle.gsb.proofs.Walks.{offset-start}
@@ -37,7 +37,7 @@ use Rattle.transfer.specs.Transfer.{valueAt, putFrom, putAs, applied, readFrom,
 use Rattle.transfer.proofs.Moving.{moves-fits, fits-stored}
 use Rattle.admission.specs.Refusals.{Outcome, accept, hasBit0, handsOver, Passed}
 use Rattle.admission.specs.Target.{targetTests, baseOf}
-use Rattle.state.specs.State.{contextOf, isStopped, faultOf, bufferTests, supportedBits, setUse, setElements, setState, getUse, fillWith, getElements, getState}
+use Rattle.state.specs.State.{contextOf, bufferTests, supportedBits, setUse, setElements, setState, getUse, fillWith, getElements, getState}
 use Rattle.state.proofs.HandOvers.{get-plain, set-plain}
 use Rattle.l0.specs.Calls.{GetState, SetState, outcome}
 use Rattle.promises.specs.History.{isAccepted}
@@ -60,7 +60,7 @@ module _ (l : Layout) (s : List ℕ) (flags guest vcpu : ℕ) (b : List ℕ) whe
   all-real : (usage : Usage) → Real (targetTests l s (supportedBits (hasBit0 flags)) flags (hasBit0 flags) guest vcpu ++ bufferTests (contextOf l s guest usage) b)
   all-real usage = ((λ t. no-store), ((λ t. no-flag _), ((λ t. no-guest), ((λ t. no-vcpu), ((λ t. no-taken), ((λ t. no-length), (stopped-real (firstBad (contextOf l s guest usage) b), tt)))))))
 
-  set-accepted : setElements l s flags guest vcpu b .answer .fault ≡ None
+  pub set-accepted : setElements l s flags guest vcpu b .answer .fault ≡ None
       → Passed (targetTests l s (supportedBits (hasBit0 flags)) flags (hasBit0 flags) guest vcpu ++ bufferTests (contextOf l s guest (setUse (hasBit0 flags))) b) × (setElements l s flags guest vcpu b ≡ accept 0 (applied (baseOf l s (hasBit0 flags) guest vcpu) b (countOf b) s))
   unfolding setElements
   set-accepted e = accepted s [] (targetTests l s (supportedBits (hasBit0 flags)) flags (hasBit0 flags) guest vcpu ++ bufferTests (contextOf l s guest (setUse (hasBit0 flags))) b) (accept 0 (applied (baseOf l s (hasBit0 flags) guest vcpu) b (countOf b) s)) (all-real (setUse (hasBit0 flags))) e
@@ -138,7 +138,7 @@ first-room base len b r o p t =
     fits-stored (t .entry .source) base (sizeAt b 4) len p (moves-fits (kindOf (idAt b 4)) base (sizeAt b 4) len (t .entry) (r .each 0 (omega arith) .moves) (t .listed)) (t .stored)
 
 -- values start where the header says, and storing a value leaves it
-base-same : (l : Layout) (s t : List ℕ) (flags guest vcpu : ℕ) → header l t ≡ header l s → baseOf l t (hasBit0 flags) guest vcpu ≡ baseOf l s (hasBit0 flags) guest vcpu
+pub base-same : (l : Layout) (s t : List ℕ) (flags guest vcpu : ℕ) → header l t ≡ header l s → baseOf l t (hasBit0 flags) guest vcpu ≡ baseOf l s (hasBit0 flags) guest vcpu
 unfolding baseOf
 base-same l s t flags guest vcpu e = ap (λ (h : List ℕ). cond (hasBit0 flags) (guestAt l guest) (slotAt l (slotOf l h guest vcpu))) e
 

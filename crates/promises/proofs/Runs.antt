@@ -21,7 +21,7 @@ use Rattle.rules.specs.declared.Usage.the-variants.{RunInput, Effect as InEffec
 use Rattle.gsb.specs.declared.Walked.{Walked}
 use Rattle.gsb.specs.declared.Walked.the-variants.{Done, Stopped}
 use Rattle.gsb.specs.declared.Verdict.{Verdict}
-use Rattle.gsb.specs.Walk.{countOf, badLength, offsetAt, judged, firstBad}
+use Rattle.gsb.specs.Walk.{countOf, badLength, offsetAt, judged, firstBad, isStopped, faultOf}
 use Rattle.gsb.specs.First.{FirstBadAt}
 use Rattle.gsb.proofs.First.{judged-leads, first-walk, all-good}
 use Rattle.store.specs.declared.Layout.{Layout}
@@ -34,7 +34,7 @@ use Rattle.exits.specs.Exits.{known, returned, rowBytes, outputOf}
 use Rattle.exits.proofs.Rows.{length-output}
 use Rattle.admission.specs.Refusals.{Outcome, refuse, decide, Passed}
 use Rattle.admission.specs.Target.{baseOf}
-use Rattle.state.specs.State.{contextOf, isStopped, faultOf}
+use Rattle.state.specs.State.{contextOf}
 use Rattle.run.specs.Run.{effectFault, contentTests, runTests, ranStore, ran, runVcpu}
 use Rattle.run.proofs.Runs.{stopped-not, run-found}
 use Rattle.l0.specs.Calls.{Call, RunVcpu, outcome}

@@ -27,7 +27,7 @@ use Rattle.elements.specs.Right.{bytesOf}
 use Rattle.rules.specs.Rules.{scopeFor}
 use Rattle.gsb.specs.declared.Walked.{Walked}
 use Rattle.gsb.specs.declared.Walked.the-variants.{Done, Stopped}
-use Rattle.gsb.specs.Walk.{countOf, offsetAt, badLength, judged, firstBad}
+use Rattle.gsb.specs.Walk.{countOf, offsetAt, badLength, judged, firstBad, isStopped, faultOf}
 use Rattle.gsb.specs.First.{FirstBadAt, AllGood}
 use Rattle.gsb.proofs.First.{judged-leads, first-walk}
 use Rattle.gsb.proofs.Walks.{long-enough}
@@ -43,7 +43,7 @@ use Rattle.transfer.proofs.Named.{applied-frame, filled-frame, beside}
 use Rattle.admission.specs.Refusals.{Outcome, success, accept, refuse, decide, hasBit0, handsOver, Passed}
 use Rattle.admission.specs.Target.{targetTests, baseOf}
 use Rattle.state.proofs.Buffers.{pvr-place}
-use Rattle.state.specs.State.{pvrOf, contextOf, isStopped, faultOf, badElement, bufferTests, supportedBits, setUse, setElements, setState, getUse, fillWith, getElements, getState}
+use Rattle.state.specs.State.{pvrOf, contextOf, badElement, bufferTests, supportedBits, setUse, setElements, setState, getUse, fillWith, getElements, getState}
 use Rattle.state.proofs.HandOvers.{get-plain, set-plain}
 use Rattle.l0.specs.Calls.{GetState, SetState, outcome}
 use Rattle.promises.specs.History.{registers}
@@ -171,7 +171,7 @@ module _ (l : Layout) (s : List ℕ) (flags guest vcpu : ℕ) (b : List ℕ) whe
       go false = refl
 
   -- the tests of the target alone
-  target-passed : (usage : Usage) → Passed (targetTests l s (supportedBits (hasBit0 flags)) flags (hasBit0 flags) guest vcpu ++ bufferTests (contextOf l s guest usage) b) → Passed (targetTests l s (supportedBits (hasBit0 flags)) flags (hasBit0 flags) guest vcpu)
+  pub target-passed : (usage : Usage) → Passed (targetTests l s (supportedBits (hasBit0 flags)) flags (hasBit0 flags) guest vcpu ++ bufferTests (contextOf l s guest usage) b) → Passed (targetTests l s (supportedBits (hasBit0 flags)) flags (hasBit0 flags) guest vcpu)
   target-passed usage p = (p .0, (p .1 .0, (p .1 .1 .0, (p .1 .1 .1 .0, (p .1 .1 .1 .1 .0, tt)))))
 
   long-passed : (usage : Usage) → Passed (targetTests l s (supportedBits (hasBit0 flags)) flags (hasBit0 flags) guest vcpu ++ bufferTests (contextOf l s guest usage) b) → 4 ≤ length b

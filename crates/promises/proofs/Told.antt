@@ -7,7 +7,7 @@ use mathlib.Core.List.{List}
 use Prim.Native.Nat.{ℕ, _<_}
 use native.Mathlib.Omega.{arith}
 use lib.Dec.{eqb}
-use borrow.Author.Tests.{eqb-true, eqb-false, ne-eqb}
+use borrow.Author.Tests.{eqb-true, eqb-false, eq-eqb, ne-eqb}
 use Rattle.answer.specs.declared.Bad.{Bad}
 use Rattle.answer.specs.declared.Bad.the-variants.{Id, Size, Value}
 use Rattle.answer.specs.declared.Place.{Place}
@@ -88,6 +88,10 @@ zero-none l s c e = none-told (nameOf c) (outcome l s c .answer .fault) (outcome
 pub accepted-none : (l : Layout) (s : List ℕ) (c : Call) → isAccepted l s c ≡ true → outcome l s c .answer .fault ≡ None
 unfolding isAccepted
 accepted-none l s c e = zero-none l s c (eqb-true _ _ e)
+
+pub none-accepted : (l : Layout) (s : List ℕ) (c : Call) → outcome l s c .answer .fault ≡ None → isAccepted l s c ≡ true
+unfolding isAccepted registers
+none-accepted l s c e = eq-eqb _ _ (none-told (nameOf c) (outcome l s c .answer .fault) (outcome l s c .answer .value) .1 e)
 
 -- refused exactly of a fault, so of one call's name as of another's
 pub refused-fault : (c : Name) (a : Answer) → NotAccepted c a → a .fault ≡ None → ⊥

@@ -6,3 +6,4 @@ pub mod Agreed
 pub mod Lists
 pub mod Mirror
 pub mod Both
+pub mod Joining

@@ -22,7 +22,7 @@ use Rattle.elements.specs.Table.{position, below, table}
 use Rattle.rules.specs.Rules.{goodInput, goodOutput}
 use Rattle.gsb.specs.declared.Walked.{Walked}
 use Rattle.gsb.specs.declared.Walked.the-variants.{Done, Stopped}
-use Rattle.gsb.specs.Walk.{countOf, badLength, firstBad}
+use Rattle.gsb.specs.Walk.{countOf, badLength, firstBad, isStopped, faultOf}
 use Rattle.gsb.proofs.Walks.{long-enough}
 use Rattle.store.specs.declared.Layout.{Layout}
 use Rattle.store.specs.Layout.{Sound, slotBytes}
@@ -41,7 +41,7 @@ use Rattle.run.specs.declared.RunTarget.{RunTarget}
 use Rattle.run.specs.declared.RunTarget.the-variants.{Refused as RunRefused, Slot}
 use Rattle.admission.specs.Refusals.{Outcome, success, refusal, refuse, decide, judgement, Passed}
 use Rattle.admission.specs.Target.{targetTests, baseOf, targetOf}
-use Rattle.state.specs.State.{contextOf, isStopped, faultOf}
+use Rattle.state.specs.State.{contextOf}
 use Rattle.run.specs.Run.{runBits, inputSize, outputSize, lentTests, effectFault, exitTests, runTargetTests, inputOf, contentTests, runTests, ranStore, ran, runVcpu}
 use Rattle.run.specs.Private.{lentGood, exitGood, runTargetOf, contentGood, judgedRun}
 use Rattle.admission.proofs.Judging.{begin-refused, begin-admitted, all-refused, all-admitted, was-refused, was-admitted, judged-passed}

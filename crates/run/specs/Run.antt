@@ -16,13 +16,13 @@ use Rattle.elements.specs.Table.{position}
 use Rattle.rules.specs.Rules.{goodInput, goodOutput}
 use Rattle.gsb.specs.declared.Walked.{Walked}
 use Rattle.gsb.specs.declared.Walked.the-variants.{Done, Stopped}
-use Rattle.gsb.specs.Walk.{countOf, badLength, firstBad}
+use Rattle.gsb.specs.Walk.{countOf, badLength, firstBad, isStopped}
 use Rattle.store.specs.declared.Layout.{Layout}
 use Rattle.transfer.specs.Transfer.{applied}
 use Rattle.exits.specs.Exits.{known, outputOf}
 use Rattle.admission.specs.Refusals.{Outcome, success, decide}
 use Rattle.admission.specs.Target.{targetTests, baseOf}
-use Rattle.state.specs.State.{contextOf, isStopped, badElement}
+use Rattle.state.specs.State.{contextOf, badElement}
 
 -- 01, "Answers": "Supported: .. run bits 0 to 2"; they are accepted and change nothing
 abbrev pub runBits : ℕ

@@ -23,7 +23,7 @@ use Rattle.elements.specs.Right.{bytesOf}
 use Rattle.rules.specs.Rules.{scopeFor}
 use Rattle.gsb.specs.declared.Walked.{Walked}
 use Rattle.gsb.specs.declared.Walked.the-variants.{Done, Stopped}
-use Rattle.gsb.specs.Walk.{countOf, badLength, firstBad}
+use Rattle.gsb.specs.Walk.{countOf, badLength, firstBad, isStopped, faultOf}
 use Rattle.gsb.proofs.Walks.{long-enough}
 use Rattle.store.specs.declared.Layout.{Layout}
 use Rattle.store.specs.Layout.{layoutOf, guestBytes, slotBytes, guestAt}
@@ -37,7 +37,7 @@ use Rattle.admission.specs.declared.Target.{Target}
 use Rattle.admission.specs.declared.Target.the-variants.{Refused as TargetRefused, At}
 use Rattle.admission.specs.Refusals.{Outcome, success, refusal, accept, refuse, decide, judgement, hasBit0}
 use Rattle.admission.specs.Target.{targetTests, baseOf, targetOf}
-use Rattle.state.specs.State.{contextOf, isStopped, faultOf, bufferTests, supportedBits, setUse, setElements, getUse, fillWith, getElements}
+use Rattle.state.specs.State.{contextOf, bufferTests, supportedBits, setUse, setElements, getUse, fillWith, getElements}
 use Rattle.state.specs.Private.{bufferGood, setAt, getAt, bytesFor}
 use Rattle.admission.proofs.Judging.{begin-refused, begin-admitted, all-refused, all-admitted}
 use Rattle.admission.proofs.Targets.{target-judged, target-found}

@@ -1,20 +1,18 @@
 -- 01, "Answers", "The guest state buffer": get state and set state. "get and set state 1, 2, 3, 4, 5, then the elements"; 02, L1's 16 is right
 -- behind 4. What they do with bit 1 is in HandOver.
 use Prim.Native.Nat.{ℕ, _+_}
-use mathlib.Core.Bool.{Bool, true, false, cond}
+use mathlib.Core.Bool.{Bool, cond}
 use mathlib.Core.List.{List, [], _∷_, _++_}
 use Rattle.octets.specs.Bytes.{be}
 use Rattle.answer.specs.declared.Fault.{Fault}
-use Rattle.answer.specs.declared.Fault.the-variants.{None, Length, Element}
+use Rattle.answer.specs.declared.Fault.the-variants.{Length}
 use Rattle.elements.specs.declared.Scope.the-variants.{Guest}
 use Rattle.elements.specs.Table.{position}
 use Rattle.elements.specs.Later.{offerOf}
 use Rattle.rules.specs.declared.Usage.{Usage}
 use Rattle.rules.specs.declared.Usage.the-variants.{GuestGet, GuestSet, ThreadGet, ThreadSet}
 use Rattle.rules.specs.declared.Context.{Context}
-use Rattle.gsb.specs.declared.Walked.{Walked}
-use Rattle.gsb.specs.declared.Walked.the-variants.{Done, Stopped}
-use Rattle.gsb.specs.Walk.{countOf, badLength, firstBad}
+use Rattle.gsb.specs.Walk.{countOf, badLength, firstBad, isStopped, faultOf}
 use Rattle.gsb.specs.Message.{message}
 use Rattle.store.specs.declared.Layout.{Layout}
 use Rattle.store.specs.Layout.{guestAt}
@@ -33,14 +31,6 @@ abbrev pub contextOf : Layout → List ℕ → ℕ → Usage → Context
 contextOf l s guest usage = record { usage = usage; capabilities = capabilitiesOf (header l s); offer = offerOf (pvrOf l s guest) }
 
 -- 6, 7 and 8 with the place: the first bad element refuses the call
-abbrev pub isStopped : Walked → Bool
-isStopped Done = false
-isStopped (Stopped bad place) = true
-
-abbrev pub faultOf : Walked → Fault
-faultOf Done = None
-faultOf (Stopped bad place) = Element bad place
-
 abbrev pub badElement : Context → List ℕ → Bool × Fault
 badElement k b = (isStopped (firstBad k b), faultOf (firstBad k b))
 

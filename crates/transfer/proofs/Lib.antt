@@ -4,3 +4,4 @@ pub mod Filled
 pub mod Accepted
 pub mod Named
 pub mod Messages
+pub mod Joined

@@ -197,6 +197,10 @@ module _ (base : ℕ) (b s : List ℕ) where
   unfolding applied
   apply-start = refl
 
+  pub apply-more : (n : ℕ) → applied base b (suc n) s ≡ putAs (kindOf (idAt b (offsetAt b n))) base (valueAt b (offsetAt b n)) (applied base b n s)
+  unfolding applied
+  apply-more n = refl
+
   pub apply-turn : (i at : ℕ) (t u : List ℕ) → t ≡ applied base b i s → at ≡ offsetAt b i → u ≡ putAs (kindOf (idAt b at)) base (valueAt b at) t → u ≡ applied base b (i + 1) s
   unfolding applied
   apply-turn i at t u e o h =

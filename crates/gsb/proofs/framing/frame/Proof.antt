@@ -3,8 +3,8 @@ use mathlib.Core.Path.{refl}
 use native.Mathlib.Omega.{arith}
 use borrow.Author.Needs.{needs}
 use Rattle.gsb.proofs.LookupLaws.{framed-known}
-use Rattle.gsb.proofs.lookups.frame.Statement.{statement}
-use Rattle.gsb.proofs.lookups.frame.Tie as tie
+use Rattle.gsb.proofs.framing.frame.Statement.{statement}
+use Rattle.gsb.proofs.framing.frame.Tie as tie
 
 sub-if1 : tie.Need-sub-if1
 sub-if1 c = search needs

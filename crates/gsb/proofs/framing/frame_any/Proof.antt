@@ -1,8 +1,8 @@
 -- Each return is a law of `framed`.
 use borrow.Author.Needs.{needs}
 use Rattle.gsb.proofs.LookupLaws.{framed-header, framed-end, framed-good}
-use Rattle.gsb.proofs.lookups.frame_any.Statement.{statement}
-use Rattle.gsb.proofs.lookups.frame_any.Tie as tie
+use Rattle.gsb.proofs.framing.frame_any.Statement.{statement}
+use Rattle.gsb.proofs.framing.frame_any.Tie as tie
 
 sub-if1 : tie.Need-sub-if1
 sub-if1 c = search needs
