@@ -57,6 +57,7 @@ pub fn admit(store: &[u8], l: Layout, supported: u64, flags: u64) -> Admission
     Admission::Admitted
 }
 
+// In the layout l, which the store's length tells.
 fn target_with(
     store: &[u8],
     l: Layout,
@@ -107,6 +108,7 @@ pub fn target_of(
     target_with(store, l, supported, flags, wide, guest, vcpu)
 }
 
+// In the layout l, which the store's length tells.
 fn slot_with(store: &[u8], l: Layout, guest: usize, vcpu: usize) -> Slot
     requires { ⌜ l ≡ layoutOf (now store) ⌝ }
     ensures { λ r. ⌜ r ≡ vcpuSlot l (now (store .entry)) guest vcpu ⌝ }

@@ -21,7 +21,8 @@ pub enum RunBuffer {
     Output,
 }
 
-// The rows of 01's table, in its order; 3 has a variant for each of its three causes. `Flag` holds the lowest-numbered bad bit.
+// The rows of 01's table, in its order; 3 has a variant for each of its three causes. `Flag` holds the lowest-numbered bad bit, `Record`
+// the byte offset of a bad call record.
 pub enum Fault {
     None,
     Store,
@@ -41,6 +42,7 @@ pub enum Fault {
     Cache,
     Taken,
     Form,
+    Record(u64),
     InUse,
 }
 
@@ -189,6 +191,7 @@ pub fn registers_of(c: Call, a: Answer) -> Registers
         Fault::Cache => three(15, 0, 0),
         Fault::Taken => three(16, 0, 0),
         Fault::Form => three(17, 0, 0),
+        Fault::Record(offset) => three(19, offset, 0),
         Fault::InUse => three(21, 0, 0),
     }
 }

@@ -21,6 +21,7 @@ ghost use Rattle.store.specs.Layout.{layoutOf};
 ghost use Rattle.admission.specs.Refusals.{Outcome};
 ghost use Rattle.guests.specs.Guests.{createGuest, deleteGuest};
 
+// The call in the layout l, which the store's length tells.
 fn create_guest_with(store: &mut [u8], l: Layout, flags: u64, token: u64) -> Answer
     requires { ⌜ l ≡ layoutOf (now store) ⌝ }
     ensures { λ r. ⌜ _≡_ {A = Outcome} (record { answer = r; store = now (store .exit); buffer = [] }) (createGuest l (now (store .entry)) flags token) ⌝ }
@@ -48,6 +49,7 @@ pub fn create_guest(store: &mut [u8], flags: u64, token: u64) -> Answer
     create_guest_with(store, l, flags, token)
 }
 
+// The call in the layout l, which the store's length tells.
 fn delete_guest_with(store: &mut [u8], l: Layout, flags: u64, guest: u64) -> Answer
     requires { ⌜ l ≡ layoutOf (now store) ⌝ }
     ensures { λ r. ⌜ _≡_ {A = Outcome} (record { answer = r; store = now (store .exit); buffer = [] }) (deleteGuest l (now (store .entry)) flags guest) ⌝ }

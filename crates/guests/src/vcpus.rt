@@ -17,6 +17,7 @@ ghost use Rattle.store.specs.Layout.{layoutOf};
 ghost use Rattle.admission.specs.Refusals.{Outcome};
 ghost use Rattle.guests.specs.Guests.{createVcpu};
 
+// The call in the layout l, which the store's length tells.
 fn create_vcpu_with(store: &mut [u8], l: Layout, flags: u64, guest: u64, vcpu: u64) -> Answer
     requires { ⌜ l ≡ layoutOf (now store) ⌝ }
     ensures { λ r. ⌜ _≡_ {A = Outcome} (record { answer = r; store = now (store .exit); buffer = [] }) (createVcpu l (now (store .entry)) flags guest vcpu) ⌝ }

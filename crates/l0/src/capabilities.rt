@@ -33,6 +33,7 @@ pub fn fresh_store(store: &mut [u8]) -> Answer
     success(0)
 }
 
+// The call in the layout l, which the store's length tells.
 fn get_capabilities_with(store: &[u8], l: Layout, flags: u64) -> Answer
     requires { ⌜ l ≡ layoutOf (now store) ⌝ }
     ensures { λ r. ⌜ _≡_ {A = Outcome} (record { answer = r; store = now (store .entry); buffer = [] }) (getCapabilities l (now (store .entry)) flags) ⌝ }
@@ -63,6 +64,7 @@ fn in_use(store: &[u8], l: Layout, bitmap: u64) -> bool
     any_live(store, l)
 }
 
+// The call in the layout l, which the store's length tells.
 fn set_capabilities_with(store: &mut [u8], l: Layout, flags: u64, bitmap: u64) -> Answer
     requires { ⌜ l ≡ layoutOf (now store) ⌝ }
     ensures { λ r. ⌜ _≡_ {A = Outcome} (record { answer = r; store = now (store .exit); buffer = [] }) (setCapabilities l (now (store .entry)) flags bitmap) ⌝ }

@@ -26,6 +26,7 @@ fn rounded_up(offset: u64) -> u64
     x - x % 0x100_0000
 }
 
+// The call in the layout l, which the store's length tells.
 fn guest_clock_with(store: &[u8], l: Layout, guest: u64, timebase: u64) -> Answer
     requires { ⌜ l ≡ layoutOf (now store) ⌝ }
     ensures { λ r. ⌜ _≡_ {A = Outcome} (record { answer = r; store = now (store .entry); buffer = [] }) (guestClock l (now (store .entry)) guest timebase) ⌝ }

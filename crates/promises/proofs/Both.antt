@@ -33,7 +33,7 @@ use Rattle.admission.specs.Refusals.{accept, decide}
 use Rattle.l0.specs.Calls.{Call, outcome, after, convert}
 use Rattle.promises.specs.History.{nameOf, registers}
 use Rattle.promises.specs.Mirror.{Mirrors}
-use Rattle.promises.specs.Both.{Seen, seen, allSeen, isCreate, isFull, beforeFull}
+use Rattle.promises.specs.Both.{Reply, replyTo, replies, isCreate, isFull, beforeFull}
 use Rattle.promises.proofs.Both.Calls.{Agree, call-both}
 use Rattle.promises.proofs.Both.Converted.{converted-mirrors}
 
@@ -46,17 +46,17 @@ unfolding isFull registers
 not-room l s c e k r = eqb-false _ _ (rest-false (isCreate c) _ k e) (ap (λ (f : Fault). told (nameOf c) f (outcome l s c .answer .value) .r3) r)
 
 module _ (l m : Layout) (so : Sound l) (so′ : Sound m) (within : Within l m) where
-  one-seen : (s t : List ℕ) (c : Call) → Agree l m (outcome l s c) (outcome m t c) → seen m t c ≡ seen l s c
-  unfolding seen registers
-  one-seen s t c a = ap₂ (λ (x : Answer) (b : List ℕ). record { registers = told (nameOf c) (x .fault) (x .value); buffer = b }) (a .answer) (a .buffer)
+  one-reply : (s t : List ℕ) (c : Call) → Agree l m (outcome l s c) (outcome m t c) → replyTo m t c ≡ replyTo l s c
+  unfolding replyTo registers
+  one-reply s t c a = ap₂ (λ (x : Answer) (b : List ℕ). record { registers = told (nameOf c) (x .fault) (x .value); buffer = b }) (a .answer) (a .buffer)
 
   -- calls of which no create is answered with 9
   record Held (s t : List ℕ) (cs : List Call) : Type 0 where
-    same : allSeen m t cs ≡ allSeen l s cs
+    same : replies m t cs ≡ replies l s cs
     kept : Mirrors l m (after l s cs) (after m t cs)
 
   held : (cs : List Call) (s t : List ℕ) → Mirrors l m s t → Held s t (beforeFull l s cs)
-  unfolding allSeen beforeFull after
+  unfolding replies beforeFull after
   held [] s t mirror = record { same = refl; kept = mirror }
   held (c ∷ cs) s t mirror = go (isFull l s c) refl (held cs)
     where
@@ -65,9 +65,9 @@ module _ (l m : Layout) (so : Sound l) (so′ : Sound m) (within : Within l m) w
       go false e ih =
           let a = call-both l m so so′ within s t mirror c (not-room l s c e) in
           let r = ih (outcome l s c .store) (outcome m t c .store) (a .stores) in
-          record { same = ap₂ (λ (x : Seen) (xs : List Seen). x ∷ xs) (one-seen s t c a) (r .same); kept = r .kept }
+          record { same = ap₂ (λ (x : Reply) (xs : List Reply). x ∷ xs) (one-reply s t c a) (r .same); kept = r .kept }
 
-  pub same-on-both : (s t : List ℕ) → Mirrors l m s t → (cs : List Call) → allSeen m t (beforeFull l s cs) ≡ allSeen l s (beforeFull l s cs)
+  pub same-on-both : (s t : List ℕ) → Mirrors l m s t → (cs : List Call) → replies m t (beforeFull l s cs) ≡ replies l s (beforeFull l s cs)
   same-on-both s t mirror cs = held cs s t mirror .same
 
   pub mirror-kept : (s t : List ℕ) → Mirrors l m s t → (cs : List Call) → Mirrors l m (after l s (beforeFull l s cs)) (after m t (beforeFull l s cs))
@@ -75,11 +75,11 @@ module _ (l m : Layout) (so : Sound l) (so′ : Sound m) (within : Within l m) w
 
   -- 02, L6: "A conversion writes a small store as a large one .., after which any list of the eight calls and the clock gives the same answers and
   -- buffers on both, up to the first create that the small one answers with 9."
-  pub same-converted : (s : List ℕ) → wellFormed l s ≡ true → (cs : List Call) → allSeen m (converted l m s) (beforeFull l s cs) ≡ allSeen l s (beforeFull l s cs)
+  pub same-converted : (s : List ℕ) → wellFormed l s ≡ true → (cs : List Call) → replies m (converted l m s) (beforeFull l s cs) ≡ replies l s (beforeFull l s cs)
   same-converted s good cs = same-on-both s (converted l m s) (converted-mirrors l m so so′ within s good) cs
 
 -- of the two sizes: a well-formed small store and its conversion
-pub same-on-large : (s : List ℕ) → wellFormed small s ≡ true → (cs : List Call) → allSeen large (converted small large s) (beforeFull small s cs) ≡ allSeen small s (beforeFull small s cs)
+pub same-on-large : (s : List ℕ) → wellFormed small s ≡ true → (cs : List Call) → replies large (converted small large s) (beforeFull small s cs) ≡ replies small s (beforeFull small s cs)
 same-on-large = same-converted small large sound-small sound-large small-within
 
 -- what an accepted conversion leaves is that store, whatever the target held

@@ -16,3 +16,4 @@ pub mod Both
 pub mod Either
 pub mod Joining
 pub mod JoinEdges
+pub mod ByNumber

@@ -10,17 +10,17 @@ use Rattle.l0.specs.Calls.{Call, GetCapabilities, SetCapabilities, CreateGuest,
 use Rattle.promises.specs.History.{registers}
 
 -- "the same answers and buffers": R3, R4 and R5 of a call, and the buffer that it writes
-pub record Seen : Type 0 where
+pub record Reply : Type 0 where
   pub registers : Registers
   pub buffer : List ℕ
 
-unfoldable pub seen : Layout → List ℕ → Call → Seen
-seen l s c = record { registers = registers l s c; buffer = outcome l s c .buffer }
+unfoldable pub replyTo : Layout → List ℕ → Call → Reply
+replyTo l s c = record { registers = registers l s c; buffer = outcome l s c .buffer }
 
 -- of each call of a list, from the store s on
-unfoldable pub allSeen : Layout → List ℕ → List Call → List Seen
-allSeen l s [] = []
-allSeen l s (c ∷ cs) = seen l s c ∷ allSeen l (outcome l s c .store) cs
+unfoldable pub replies : Layout → List ℕ → List Call → List Reply
+replies l s [] = []
+replies l s (c ∷ cs) = replyTo l s c ∷ replies l (outcome l s c .store) cs
 
 abbrev pub isCreate : Call → Bool
 isCreate (GetCapabilities flags) = false

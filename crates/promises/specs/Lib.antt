@@ -7,3 +7,4 @@ pub mod Lists
 pub mod Mirror
 pub mod Both
 pub mod Joining
+pub mod ByNumber

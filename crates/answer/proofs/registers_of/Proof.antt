@@ -181,6 +181,15 @@ three-requires-16 c κs = search needs
 returns-18 : tie.Need-returns-18
 returns-18 c = search (needs, row)
 
+enum-known-fault-6 : tie.Need-enum-known-fault-6
+enum-known-fault-6 c = search needs
+
+three-requires-18 : tie.Need-three-requires-18
+three-requires-18 c κs = search needs
+
+returns-20 : tie.Need-returns-20
+returns-20 c = search (needs, row)
+
 enum-told-14 : tie.Need-enum-told-14
 enum-told-14 c = search needs
 
@@ -235,8 +244,10 @@ registers-of-spec =
     three-requires-15
     enum-told-13
     three-requires-16
-    enum-told-14
+    enum-known-fault-6
     three-requires-17
+    enum-told-14
+    three-requires-18
     returns
     returns-2
     returns-3
@@ -255,4 +266,5 @@ registers-of-spec =
     returns-16
     returns-17
     returns-18
-    returns-19)
+    returns-19
+    returns-20)
