@@ -180,6 +180,10 @@ put-join n m s i v x y p q =
     ∙ sym (put-append s i (digits n (v / 256 ^ m)) (digits m v))
     ∙ ap (λ (w : List ℕ). put s i w) (sym (digits-add n m v))
 
+-- the same of seven bytes, as 4, 2 and 1
+pub get-seven : (s : List ℕ) (at h l x : ℕ) → h ≡ be s at 4 → l ≡ be s (at + 4) 2 → x ≡ getD s (at + 6) 0 → (h * 65536 + l) * 256 + x ≡ be s at 7
+get-seven s at h l x p q e = read-more s at 6 (h * 65536 + l) x (be-join 4 2 s at h l p q) e
+
 -- a number of 4 bytes with its halves turned, and the bound of the second
 halves : (s : List ℕ) (at : ℕ) → ((k : ℕ) → Fits w8 (getD s k 0)) → (be s at 2 < 65536) × (be s (at + 2) 2 < 65536)
 halves s at b = (be-lt s at 2 (λ k h. b (at + k) .fits), be-lt s (at + 2) 2 (λ k h. b (at + 2 + k) .fits))

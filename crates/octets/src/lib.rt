@@ -10,6 +10,7 @@ pub use reading::get_bits;
 pub use reading::get_turned;
 pub use reading::get16;
 pub use reading::get32;
+pub use reading::get56;
 pub use reading::get64;
 pub use reading::pair;
 pub use writing::put_bits;

@@ -64,6 +64,16 @@ pub fn get64(b: &[u8], at: usize) -> u64
     swap64(octet(b, at))
 }
 
+// A number of seven bytes: what is left of a head of 31 bytes behind three words.
+pub fn get56(b: &[u8], at: usize) -> u64
+    requires { ⌜ at + 7 ≤ length (now b) ⌝ }
+    ensures { λ r. ⌜ (r ≡ be (now (b .entry)) at 7) × (r < 2 ^ 56) ⌝ }
+{
+    let high = get32(b, at) as u64;
+    let low = get16(b, at + 4) as u64;
+    (high * 0x1_0000 + low) * 256 + wide(b[at + 6])
+}
+
 // The `width` bits from bit `at` on, in one load: the bits before them are shifted out, then those behind.
 pub fn get_bits(b: &[u8], at: usize, width: usize) -> u32
     requires { ⌜ (at / 8 + 4 ≤ length (now b)) × (1 ≤ width) × (width ≤ 25) ⌝ }
