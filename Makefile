@@ -15,24 +15,32 @@ archive = target/staticlib/libadderknot.a
 cache_archive = target/staticlib/libl1bench.a
 bench = target/bench
 programs = $(addprefix $(bench)/,cached calls compare count example hand-over join joins score score-vendor shallow speed)
+programs += $(addprefix $(bench)/,pieces replay_model)
 vendors = $(patsubst bench/mistakes/%.edit,$(bench)/vendor-%.so,$(wildcard bench/mistakes/*.edit)) \
     $(patsubst tests/score/hostile/%.c,$(bench)/hostile-%.so,$(wildcard tests/score/hostile/*.c)) \
     $(bench)/model.so $(bench)/private.so
-# The comparison of joins with a mistake in the model, for each.
-wrong_joins = $(patsubst bench/join_mistakes/%.edit,$(bench)/joins-%,$(wildcard bench/join_mistakes/*.edit))
+programs += $(bench)/records
+# The comparisons of joins, of records and of calls by their number, with a mistake in the model, for each.
+mistaken = $(patsubst bench/join_mistakes/%.edit,$(bench)/joins-%,$(wildcard bench/join_mistakes/*.edit)) \
+    $(patsubst bench/record_mistakes/%.edit,$(bench)/records-%,$(wildcard bench/record_mistakes/*.edit)) \
+    $(patsubst bench/call_mistakes/%.edit,$(bench)/compare-%,$(wildcard bench/call_mistakes/*.edit))
+comparison = $(addprefix bench/,lists.c met.c both.c) $(night)
 headers = $(wildcard include/*.h bench/*.h)
 night = $(addprefix bench/,night.c damage.c form.c gsb.c lent.c store.c chance.c tell.c)
-scoring = $(addprefix bench/,account.c cover.c csv.c figures.c judge.c order.c page.c parts.c result.c sha256.c \
+scoring = $(addprefix bench/,account.c cover.c csv.c figures.c judge.c order.c page.c parts.c recording.c result.c sha256.c \
     text.c vendor.c watch.c window.c)
 
-.PHONY: all bench run score speed counts figures listing test install uninstall clean tools help
+# What records a night and replays it.
+replayed = $(addprefix $(bench)/,score score-vendor model.so replay_model) target/bin/replay
+
+.PHONY: all bench run score speed replay-speed counts figures listing replay test install uninstall clean tools help
 .PHONY: browser compiler kit
 .DELETE_ON_ERROR:
-.PRECIOUS: $(bench)/vendor-%.c $(bench)/joins-%.c
+.PRECIOUS: $(bench)/vendor-%.c $(bench)/joins-%.c $(bench)/records-%.c $(bench)/compare-%.c
 
 all: $(archive) ## prove the library and build target/staticlib/libadderknot.a
 
-bench: $(programs) $(vendors) $(wrong_joins) ## build the C programs, and vendors' libraries to try the score on
+bench: $(programs) $(vendors) $(mistaken) ## build the C programs, and vendors' libraries to try the score on
 
 run: $(bench)/compare ## compare the library with the model, on two million calls of the small store and two million of the large one
 	$(bench)/compare $(ARGS)
@@ -44,14 +52,20 @@ score: $(bench)/score $(bench)/score-vendor $(bench)/model.so ## score a vendor'
 speed: $(bench)/speed ## time the library against the model
 	$(bench)/speed $(ARGS)
 
+replay-speed: $(replayed) ## time the program replay against the model's, on a recorded night
+	bench/replay_speed.sh $(ARGS)
+
 counts: tools $(bench)/count ## count the instructions of library and model, or of each function in a case: make counts ARGS=7
 	bench/counts.sh $(ARGS)
 
-figures: tools $(bench)/speed $(bench)/count $(bench)/shallow ## write docs/FIGURES.md; LOG=FILE: what the gate printed, for the times of checks
+figures: tools $(bench)/speed $(bench)/count $(bench)/shallow $(replayed) ## write docs/FIGURES.md; LOG=FILE: what the gate printed, for the times of checks
 	bench/figures.sh $(LOG) > $(bench)/FIGURES.md && mv $(bench)/FIGURES.md docs/FIGURES.md
 
 listing: target/bin/listing ## build the listing program and run it on the example of README.md
 	tests/listing/raw tests/listing/example.hex | target/bin/listing
+
+replay: target/bin/replay ## build the replay program and run it on calls that a person can read
+	tests/listing/raw tests/replay/example.hex | target/bin/replay
 
 test: ## the whole gate
 	.ci/run
@@ -60,14 +74,17 @@ test: ## the whole gate
 installed = \
     644:include/adderknot.h:$(INCLUDEDIR)/adderknot.h \
     644:include/adderknot_gsb.h:$(INCLUDEDIR)/adderknot_gsb.h \
+    644:include/adderknot_record.h:$(INCLUDEDIR)/adderknot_record.h \
     644:$(archive):$(LIBDIR)/libadderknot.a \
     644:$(bench)/adderknot.pc:$(LIBDIR)/pkgconfig/adderknot.pc \
     755:$(bench)/score:$(BINDIR)/score \
     755:$(bench)/score-vendor:$(BINDIR)/score-vendor \
     755:target/bin/listing:$(BINDIR)/listing \
+    755:target/bin/replay:$(BINDIR)/replay \
     644:man/adderknot.3:$(MANDIR)/man3/adderknot.3 \
     644:man/score.1:$(MANDIR)/man1/score.1 \
-    644:man/listing.1:$(MANDIR)/man1/listing.1
+    644:man/listing.1:$(MANDIR)/man1/listing.1 \
+    644:man/replay.1:$(MANDIR)/man1/replay.1
 
 # Of such a line, the file and the place.
 file_of = $(word 2,$(subst :, ,$1))
@@ -114,7 +131,7 @@ compiler:
 	$(call need,$(CC),gcc libc6-dev)
 
 help: ## this text
-	@awk -F ':.*## ' '/^[a-z]+:.*## / { printf "make %-10s %s\n", $$1, $$2 }' Makefile
+	@awk -F ':.*## ' '/^[a-z-]+:.*## / { printf "make %-12s %s\n", $$1, $$2 }' Makefile
 
 kit:
 	@command -v rt >/dev/null || { \
@@ -132,22 +149,28 @@ $(archive) $(cache_archive): target/staticlib/lib%.a: $(sources) | kit compiler
 # One rt at a time.
 $(cache_archive): | $(archive)
 
-target/bin/listing: $(sources) | kit
-	rt check listing
+target/bin/listing target/bin/replay: target/bin/%: $(sources) | kit
+	rt check $*
 	touch $@
 
 $(bench)/%: bench/%.c $(headers) $(archive)
 	mkdir -p $(bench)
 	$(CC) $(CFLAGS) -Iinclude $(filter %.c,$^) $(filter %.a,$^) $(LDLIBS) -o $@
 
-$(bench)/cached $(bench)/calls $(bench)/compare $(bench)/count $(bench)/joins $(bench)/shallow $(bench)/speed: bench/model.c
+$(bench)/cached $(bench)/calls $(bench)/compare $(bench)/count $(bench)/joins $(bench)/records $(bench)/shallow \
+    $(bench)/speed: bench/model.c
 $(bench)/cached $(bench)/count $(bench)/shallow $(bench)/speed: bench/model_cache.c $(cache_archive)
 $(bench)/count $(bench)/shallow $(bench)/speed: bench/cases.c
 $(bench)/calls $(bench)/count $(bench)/speed: bench/store.c
-$(bench)/cached $(bench)/compare $(bench)/score $(bench)/shallow: $(night)
-$(bench)/compare: bench/lists.c bench/met.c bench/both.c
+$(bench)/records: bench/chance.c
+$(bench)/cached $(bench)/score $(bench)/shallow: $(night)
+$(bench)/compare: $(comparison)
 $(bench)/joins $(bench)/shallow: bench/pairs.c
+$(bench)/records $(bench)/shallow: bench/fields.c
+$(bench)/compare $(bench)/shallow: bench/numbered.c
 $(bench)/joins: bench/lent.c bench/chance.c
+$(bench)/pieces: bench/chance.c
+$(bench)/replay_model: bench/model.c
 # A first call through the dynamic linker would take its stack.
 $(bench)/shallow: LDLIBS = -Wl,-z,now
 $(bench)/shallow: bench/deep.c bench/depth.c
@@ -175,16 +198,38 @@ $(bench)/model.so: bench/model.c $(headers) | compiler
 	mkdir -p $(bench)
 	$(as_vendor) $< -o $@
 
-$(bench)/vendor-%.c: bench/mistakes/%.edit bench/model.c bench/edit.awk
+# The model with a mistake, which the first prerequisite says; and a comparison with it.
+define edited
 	mkdir -p $(bench)
 	awk -f bench/edit.awk $< bench/model.c > $@
+endef
+with_mistake = $(CC) $(CFLAGS) -Iinclude -Ibench $(filter %.c %.o,$^) $(archive) -o $@
+
+$(bench)/vendor-%.c: bench/mistakes/%.edit bench/model.c bench/edit.awk
+	$(edited)
 
 $(bench)/joins-%.c: bench/join_mistakes/%.edit bench/model.c bench/edit.awk
-	mkdir -p $(bench)
-	awk -f bench/edit.awk $< bench/model.c > $@
+	$(edited)
+
+$(bench)/records-%.c: bench/record_mistakes/%.edit bench/model.c bench/edit.awk
+	$(edited)
+
+$(bench)/compare-%.c: bench/call_mistakes/%.edit bench/model.c bench/edit.awk
+	$(edited)
 
 $(bench)/joins-%: $(bench)/joins-%.c bench/joins.c bench/pairs.c bench/lent.c bench/chance.c $(headers) $(archive)
-	$(CC) $(CFLAGS) -Iinclude -Ibench $(filter %.c,$^) $(archive) -o $@
+	$(with_mistake)
+
+$(bench)/records-%: $(bench)/records-%.c bench/records.c bench/fields.c bench/chance.c $(headers) $(archive)
+	$(with_mistake)
+
+# All of the comparison but the model, compiled once.
+$(bench)/comparison.o: bench/compare.c $(comparison) bench/numbered.c $(headers) | compiler
+	mkdir -p $(bench)
+	$(CC) $(CFLAGS) -Iinclude -r $(filter %.c,$^) -o $@
+
+$(bench)/compare-%: $(bench)/compare-%.c $(bench)/comparison.o $(headers) $(archive)
+	$(with_mistake)
 
 $(bench)/vendor-%.so: $(bench)/vendor-%.c $(headers) | compiler
 	$(as_vendor) $< -o $@

@@ -288,13 +288,9 @@ static int make_night(enum size size, uint64_t ops)
 
 int main(int argc, char **argv)
 {
-    uint64_t seed = SEED, ops = 200000;
-    if (!read_run(argc, argv, &seed, &ops)) {
-        fprintf(stderr, "usage: cached [--calls N] [--seed S | --seed fresh]\n");
+    uint64_t ops = 200000;
+    if (!begin_run(argc, argv, "cached", "operations on stores of each size", &ops))
         return 2;
-    }
-    printf("cached: %" PRIu64 " operations on stores of each size, seed 0x%" PRIX64 "\n", ops, seed);
-    seed_chance(seed);
     make_memory();
     int result = 0;
     for (enum size size = 0; size < SIZES; size++)

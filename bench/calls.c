@@ -13,7 +13,8 @@
  *                                           accepted, goes on with these as the store
  *     NAME numbers buffers = r3 r4 r5       a call: its name without adk_, then, each in the order of adderknot.h, its
  *                                           numbers and the buffers lent. r4 and r5 are 0 where they are left out
- *     NAME numbers buffers = r3 r4 r5 [..]  the same, where the call writes a buffer: what that buffer holds afterwards
+ *     NAME numbers buffers = r3 r4 r5 [..]  the same, where the call writes a buffer: what that buffer holds afterwards.
+ *                                           A call by its number has the name call, and writes what its kind writes
  *     create_vcpus GUEST N                  creates vCPUs 0 to N - 1 of the guest, each accepted
  *     store_is AT [..]                      the store holds these bytes from byte AT
  *     store_put AT [..]                     puts bytes there
@@ -35,7 +36,7 @@
 
 #define COUNT(a) (sizeof(a) / sizeof((a)[0]))
 
-enum { NUMBERS = 4, PIECES = 3, BYTES_MAX = ADK_BUFFER_MAX + 1, TEXT_MAX = 4096, STORE_MAX = 2 * ADK_LARGE_STORE_SIZE };
+enum { NUMBERS = 5, PIECES = 3, BYTES_MAX = ADK_BUFFER_MAX + 1, TEXT_MAX = 4096, STORE_MAX = 2 * ADK_LARGE_STORE_SIZE };
 
 struct bytes {
     size_t n;
@@ -55,6 +56,8 @@ struct statement {
 struct side {
     const char *name;
     struct l0 on;
+    __typeof__(adk_call) *call;
+    __typeof__(adk_write_record) *write_record;
     uint8_t store[STORE_MAX], target[STORE_MAX];
     struct bytes piece[PIECES];
 };
@@ -62,17 +65,22 @@ struct side {
 /* How many bytes are the store, on both sides. */
 static size_t store_len;
 
-static struct side sides[] = { { .name = "library", .on = L0_LIBRARY }, { .name = "model", .on = L0_MODEL } };
+static struct side sides[] = {
+    { .name = "library", .on = L0_LIBRARY, .call = adk_call, .write_record = adk_write_record },
+    { .name = "model", .on = L0_MODEL, .call = mdl_call, .write_record = mdl_write_record },
+};
 
-typedef adk_answer make_call(struct side *s, const uint64_t *n);
+typedef adk_answer make_on(struct side *s, const uint64_t *n);
 
-/* One call on a side. */
-#define MAKE(name, ...)                                              \
+/* One call on a side, by an entry of it. */
+#define MAKE_BY(entry, name, ...)                                    \
     static adk_answer make_##name(struct side *s, const uint64_t *n) \
     {                                                                \
         (void)n;                                                     \
-        return s->on.name(__VA_ARGS__);                              \
+        return s->entry(__VA_ARGS__);                                \
     }
+
+#define MAKE(name, ...) MAKE_BY(on.name, name, __VA_ARGS__)
 
 #define STORE s->store, store_len
 #define PIECE(i) s->piece[i].b, s->piece[i].n
@@ -87,15 +95,17 @@ MAKE(set_state, STORE, n[0], n[1], n[2], PIECE(0))
 MAKE(run_vcpu, STORE, n[0], n[1], n[2], PIECE(0), PIECE(1), PIECE(2), n[3])
 MAKE(delete_guest, STORE, n[0], n[1])
 MAKE(guest_clock, STORE, n[0], n[1])
+MAKE_BY(call, call, STORE, n[0], n[1], n[2], n[3], n[4], PIECE(0), PIECE(1), PIECE(2))
+MAKE_BY(write_record, write_record, PIECE(0), n[0], n[1], n[2], n[3], n[4], PIECE(1), PIECE(2))
 
-enum { NONE = PIECES };
+enum { NONE = PIECES, BY_KIND };
 
 #define ON(name) #name, make_##name
 
 static const struct kind {
     const char *name;
-    make_call *make;
-    unsigned numbers, pieces, written; /* written: the piece that the call may write, or NONE */
+    make_on *make;
+    unsigned numbers, pieces, written; /* written: the piece that the call may write, NONE, or that of its kind */
 } KINDS[] = {
     { ON(fresh_store), 0, 0, NONE },
     { ON(get_capabilities), 1, 0, NONE },
@@ -107,7 +117,17 @@ static const struct kind {
     { ON(run_vcpu), 4, 3, 1 },
     { ON(delete_guest), 2, 0, NONE },
     { ON(guest_clock), 2, 0, NONE },
+    { ON(call), 5, 3, BY_KIND },
+    { ON(write_record), 5, 3, 0 },
 };
+
+/* The piece that is written, or NONE. By its number a get state writes its data, and a run its output. */
+static unsigned written_piece(const struct kind *k, const struct statement *t)
+{
+    if (k->written != BY_KIND)
+        return k->written;
+    return t->number[0] == ADK_KIND_GET_STATE ? 0 : t->number[0] == ADK_KIND_RUN_VCPU ? 1 : NONE;
+}
 
 /* ---- Statements carried out; each says whether it holds ---- */
 
@@ -137,7 +157,7 @@ static bool call_on(struct side *s, const struct kind *k, const struct statement
         holds = false;
     }
     for (unsigned i = 0; i < k->pieces; i++)
-        if (!same_bytes(&s->piece[i], i == k->written && t->afters != 0 ? &t->after : &t->piece[i])) {
+        if (!same_bytes(&s->piece[i], i == written_piece(k, t) && t->afters != 0 ? &t->after : &t->piece[i])) {
             printf("  %s leaves other bytes in buffer %u\n", s->name, i);
             holds = false;
         }
@@ -155,7 +175,9 @@ static bool same_stores(void)
 static bool call(const struct kind *k, const struct statement *t)
 {
     bool holds = true;
-    if (t->numbers != k->numbers || t->pieces != k->pieces || t->answers == 0 || (t->afters != 0 && k->written == NONE))
+    if (t->numbers != k->numbers || t->pieces != k->pieces || t->answers == 0)
+        return false;
+    if (t->afters != 0 && written_piece(k, t) == NONE)
         return false;
     for (size_t i = 0; i < COUNT(sides); i++)
         holds = call_on(&sides[i], k, t) && holds;

@@ -1,6 +1,6 @@
 /*
  * cases.c: the work that speed.c times and count.c repeats: calls that walk a guest state buffer, those that create and
- * delete, those that hand a vCPU over, and the operations of the L1 cache.
+ * delete, those that hand a vCPU over, calls by their number, and the operations of the L1 cache.
  */
 #include "cases.h"
 
@@ -30,6 +30,7 @@ struct party {
     struct l0 on;
     struct l1 above;
     __typeof__(adk_join) *join;
+    __typeof__(adk_call) *by_number;
     uint8_t store[ADK_LARGE_STORE_SIZE];
     size_t store_len;
     uint64_t guest; /* the last one */
@@ -39,8 +40,8 @@ struct party {
     size_t at, len; /* what a lookup found */
 };
 
-struct party library = { .on = L0_LIBRARY, .above = L1_LIBRARY, .join = adk_join },
-             model = { .on = L0_MODEL, .above = L1_MODEL, .join = mdl_join };
+struct party library = { .on = L0_LIBRARY, .above = L1_LIBRARY, .join = adk_join, .by_number = adk_call },
+             model = { .on = L0_MODEL, .above = L1_MODEL, .join = mdl_join, .by_number = mdl_call };
 
 static adk_answer call_get(struct party *s)
 {
@@ -57,6 +58,19 @@ static adk_answer call_run(struct party *s)
 {
     return s->on.run_vcpu(s->store, s->store_len, 0, s->guest, VCPU, s->buffer.bytes, sizeof s->buffer.bytes,
                           s->output, sizeof s->output, s->effect.bytes, s->effect.len, ADK_EXIT_HCALL);
+}
+
+/* The same by their number. */
+static adk_answer set_by_number(struct party *s)
+{
+    return s->by_number(s->store, s->store_len, ADK_KIND_SET_STATE, 0, s->guest, VCPU, 0, s->buffer.bytes,
+                        s->buffer.len, s->output, 0, s->effect.bytes, 0);
+}
+
+static adk_answer run_by_number(struct party *s)
+{
+    return s->by_number(s->store, s->store_len, ADK_KIND_RUN_VCPU, 0, s->guest, VCPU, ADK_EXIT_HCALL, s->buffer.bytes,
+                        sizeof s->buffer.bytes, s->output, sizeof s->output, s->effect.bytes, s->effect.len);
 }
 
 /* Three calls. The guest comes back under its number, and its vCPU in the slot that was freed. */
@@ -320,6 +334,9 @@ static const struct work WORK[] = {
       call_set, build_input, 155, 0, ADK_OK, 0, ADK_PVR_ARCH_300 },
     { "get state, POWER9: all its 160 readable thread elements",
       call_get, build_readable, 160, 0, ADK_OK, 0, ADK_PVR_ARCH_300 },
+    { "set state by its number, one GPR", set_by_number, build_one, 1, 0, ADK_OK, 0, ANY_PVR },
+    { "run by its number, exit 0xC00, empty input and effect",
+      run_by_number, build_none, 0, 0, ADK_OK, ADK_EXIT_HCALL, ANY_PVR },
     { "cache, a read of GPR 3 through the store", call_read_through, build_none, 0, 0, ADK_OK, 0, ANY_PVR },
     { "cache, a run, exit 0xC00, none changed",
       call_run_none, build_input_room, 0, 0, ADK_OK, ADK_EXIT_HCALL, ANY_PVR },

@@ -4,6 +4,8 @@
 #include "adderknot.h"
 
 #include <errno.h>
+#include <inttypes.h>
+#include <stdio.h>
 #include <stdlib.h>
 #include <string.h>
 #include <time.h>
@@ -38,7 +40,7 @@ bool read_seed(const char *text, uint64_t *seed)
     return true;
 }
 
-bool read_run(int argc, char **argv, uint64_t *seed, uint64_t *calls)
+static bool read_run(int argc, char **argv, uint64_t *seed, uint64_t *calls)
 {
     for (int i = 1; i < argc; i += 2) {
         const char *value = i + 1 < argc ? argv[i + 1] : "";
@@ -47,6 +49,18 @@ bool read_run(int argc, char **argv, uint64_t *seed, uint64_t *calls)
             return false;
     }
     return true;
+}
+
+bool begin_run(int argc, char **argv, const char *name, const char *what, uint64_t *calls)
+{
+    uint64_t seed = SEED;
+    bool read = read_run(argc, argv, &seed, calls);
+    if (!read)
+        fprintf(stderr, "usage: %s [--calls N] [--seed S | --seed fresh]\n", name);
+    else
+        printf("%s: %s, %" PRIu64 " by chance, seed 0x%" PRIX64 "\n", name, what, *calls, seed);
+    seed_chance(seed);
+    return read;
 }
 
 uint64_t any_bit(void)

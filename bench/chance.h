@@ -22,8 +22,9 @@ void seed_part(uint64_t seed, uint64_t part);
 bool read_number(const char *text, uint64_t *n);
 bool read_seed(const char *text, uint64_t *seed);
 
-/* Reads the options --calls and --seed of a run. */
-bool read_run(int argc, char **argv, uint64_t *seed, uint64_t *calls);
+/* Begins the run of a program: reads its options --calls and --seed, says what it does and how often, and seeds chance.
+   False, after a line of usage, where the options cannot be read. */
+bool begin_run(int argc, char **argv, const char *name, const char *what, uint64_t *calls);
 
 /* In line, since a night asks for hundreds of numbers for each call, mostly below one that is known here. */
 extern uint64_t chance_state;

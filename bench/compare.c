@@ -13,6 +13,9 @@
  *     order       each set of faults of a run, of get and set state, of both hand-overs and of a conversion gave the
  *                 answer of the one that the scope puts first; once with an unlisted ID, once with one that a POWER9
  *                 guest lacks
+ *     numbered    a fourth of the calls, and each of those sets, made by their number too: by library and model the
+ *                 answer and all bytes are the same, and they are those of the call itself; a kind that is none of the
+ *                 eight is 19, whatever the store, and changes nothing
  *     coverage    each call gave each answer that it can give, 2 with each unsupported bit as r4, and no other; each
  *                 element was read and set where its access permits and refused where not, in a run's input and effect
  *                 too, for POWER9 guests and for others; what came after POWER9 was refused alone, with another size
@@ -24,7 +27,8 @@
  *                 given back, forms with just one wrong part were refused for each part, and a taken vCPU was met by
  *                 each call that could mistake it; the last guest and the last slot were given and used by each call,
  *                 and then there was none; stores with just one thing ill formed were refused for each, and lengths
- *                 beside both sizes and between them
+ *                 beside both sizes and between them; each call gave each of its answers by its number too, and each
+ *                 kind that is none of the eight was refused over good stores and over bad ones
  *     both        with --large: lists of calls gave the same answers and buffers on small stores and on their
  *                 conversions (both.h)
  *
@@ -35,6 +39,7 @@
 #include "lists.h"
 #include "met.h"
 #include "model.h"
+#include "numbered.h"
 #include "tell.h"
 
 #include <inttypes.h>
@@ -85,15 +90,21 @@ static const char *const SCENE_NAME[SCENES] = {
 
 /* ---- The comparison ---- */
 
+/* How a call is made beside the call itself: by its number, or by a kind that is none of the eight. */
+enum way { PLAIN, BY_NUMBER, BY_NO_KIND };
+
 struct run {
     uint64_t seed, calls, number;
     enum size size;
+    enum way way;
     uint64_t agreed; /* before the call */
     bool named_taken, guest_taken, any_taken; /* before it: the vCPU it names, one of the guest it names, any */
     bool over;                                /* before it: the vCPU it names had bytes that are not zero */
     enum list list;                           /* before it: that of the guest it names */
     bool quiet;
     uint64_t tally[KIND_COUNT][ANSWERS];
+    unsigned numbered[KIND_COUNT];          /* the answers given by the call's number */
+    bool no_kinds[NO_KIND_COUNT][2];        /* which were refused, over a good store and over a bad one */
     unsigned with_r4[KIND_COUNT][2];        /* the answers given with r4 0, and with another r4 */
     unsigned with_r5[KIND_COUNT];           /* those given with an r5 that is not 0 */
     uint64_t bad_bits[KIND_COUNT];          /* the bits told as r4 of answer 2 */
@@ -136,18 +147,30 @@ static struct manner manner_of(const struct run *r)
     return (struct manner){ .large = r->size == LARGE };
 }
 
-/* What the call broke in this piece, or NULL. Where it holds, BEFORE is brought up to date. */
-static const char *broken(const struct call *c, enum piece p, bool accepted)
+/* One of four calls goes by its number, and so does each whose answer the scope tells; one by no kind. */
+static enum way way_of(const struct run *r, const struct call *c, const adk_found *expected)
 {
-    size_t n = extent(c, p);
-    if (!guards_intact(p, LIBRARY, n) || !guards_intact(p, OTHER, n))
-        return "guards";
-    if (!accepted || c->kind->use[p] == READ)
-        return same_bytes(p, LIBRARY, BEFORE, n) && same_bytes(p, OTHER, BEFORE, n) ? NULL : "unchanged";
-    if (!same_bytes(p, LIBRARY, OTHER, n))
-        return "agreement";
-    memcpy(memory[BEFORE][p], memory[OTHER][p], n);
-    return NULL;
+    if (record_kind(c->kind) == 0)
+        return PLAIN;
+    if (expected != NULL || r->number % 4 == 0)
+        return BY_NUMBER;
+    return r->number % 4 == 1 ? BY_NO_KIND : PLAIN;
+}
+
+/* Which of NO_KINDS it is then. */
+static size_t no_kind_of(const struct run *r)
+{
+    return r->number / 4 % NO_KIND_COUNT;
+}
+
+/* What the call broke in this piece, or NULL. Where it holds, BEFORE is brought up to date. */
+static const char *breaks(const struct call *c, enum piece p, bool accepted)
+{
+    bool may_write = accepted && c->kind->use[p] == WRITTEN;
+    const char *what = broken(p, extent(c, p), may_write);
+    if (what == NULL && may_write)
+        memcpy(memory[BEFORE][p], memory[OTHER][p], extent(c, p));
+    return what;
 }
 
 static int report(const struct run *r, const char *name, const struct call *c, const adk_found *lib,
@@ -383,6 +406,10 @@ static void note(struct run *r, const struct call *c, const adk_found *f)
     if (layout != &LAYOUTS[r->size] && !converts(c->kind))
         return;
     r->tally[k][f->r3]++;
+    if (r->way == BY_NUMBER)
+        r->numbered[k] |= A(f->r3);
+    if (r->way == BY_NO_KIND)
+        r->no_kinds[no_kind_of(r)][f->r3 == ADK_BAD_STORE] = true;
     r->with_r4[k][f->r4 != 0] |= A(f->r3);
     r->with_r5[k] |= f->r5 != 0 ? A(f->r3) : 0;
     if (f->r3 == ADK_BAD_FLAG)
@@ -405,12 +432,58 @@ static void note(struct run *r, const struct call *c, const adk_found *f)
         note_bitmap(r, c);
 }
 
+/* ---- Calls by their number ---- */
+
+static int report_numbered(const struct run *r, const struct call *c, const adk_found *lib, const adk_found *mdl)
+{
+    report(r, "numbered", c, lib, mdl);
+    if (same_answer(lib, mdl))
+        printf("  by its number it differs in lent bytes\n");
+    else
+        printf("  by its number it differs in answer %" PRIu64 " -> %" PRIu64 "\n", lib->r3, mdl->r3);
+    return 1;
+}
+
+/* The call by its number on both sides; 0 if nothing differs. Then OTHER has what it left, and LIBRARY is as before, so
+   that the call itself can be laid beside it. */
+static int compare_numbered(const struct run *r, const struct call *c, adk_found *mdl)
+{
+    struct numbered n = by_number(c, r->number);
+    adk_found lib = make_numbered(adk_call, &n, memory[LIBRARY]);
+    *mdl = make_numbered(mdl_call, &n, memory[OTHER]);
+    if (!same_answer(&lib, mdl) || !numbered_holds(&n, c, &lib))
+        return report_numbered(r, c, &lib, mdl);
+    for (int p = 0; p < PIECES; p++)
+        if (c->kind->use[p] == WRITTEN)
+            memcpy(memory[LIBRARY][p], memory[BEFORE][p], extent(c, p));
+    return 0;
+}
+
+/* The same by a kind that is none of the eight. */
+static int compare_no_kind(const struct run *r, const struct call *c)
+{
+    const adk_found refused = { .r3 = ADK_BAD_RECORD };
+    struct numbered n = by_number(c, r->number);
+    n.kind = NO_KINDS[no_kind_of(r)];
+    adk_found lib = make_numbered(adk_call, &n, memory[LIBRARY]), mdl = make_numbered(mdl_call, &n, memory[OTHER]);
+    if (!same_answer(&lib, &refused) || !same_answer(&mdl, &refused) || !numbered_holds(&n, c, &refused))
+        return report_numbered(r, c, &lib, &mdl);
+    return 0;
+}
+
 /* One call on both sides; 0 if nothing differs. expected is the answer, or NULL where only the model tells it. */
 static int compare_call(struct run *r, const struct call *c, const adk_found *expected)
 {
+    adk_found mdl;
     look_before(r, c);
+    r->way = way_of(r, c, expected);
+    if (r->way == BY_NO_KIND && compare_no_kind(r, c) != 0)
+        return 1;
+    if (r->way != BY_NUMBER)
+        mdl = c->kind->make(&model, c, memory[OTHER]);
+    else if (compare_numbered(r, c, &mdl) != 0)
+        return 1;
     adk_found lib = c->kind->make(&library, c, memory[LIBRARY]);
-    adk_found mdl = c->kind->make(&model, c, memory[OTHER]);
     if (expected != NULL && !same_answer(&lib, expected)) {
         report(r, "order", c, &lib, &mdl);
         print_answer(stdout, "expected", c, expected);
@@ -419,7 +492,7 @@ static int compare_call(struct run *r, const struct call *c, const adk_found *ex
     if (!same_answer(&lib, &mdl))
         return report(r, "agreement", c, &lib, &mdl);
     for (int p = 0; p < PIECES; p++) {
-        const char *name = c->kind->use[p] == NOT_LENT ? NULL : broken(c, p, lib.r3 == 0);
+        const char *name = c->kind->use[p] == NOT_LENT ? NULL : breaks(c, p, lib.r3 == 0);
         if (name != NULL)
             return report(r, name, c, &lib, &mdl);
     }
@@ -677,6 +750,25 @@ static bool covered(const struct run *r, size_t k)
     return lengths_covered(r, k) && all;
 }
 
+/* Whether each call gave each of its answers by its number, and each other kind was refused. */
+static bool numbers_covered(const struct run *r)
+{
+    bool all = true;
+    for (size_t k = 0; k < KIND_COUNT; k++)
+        if (record_kind(&KINDS[k]) != 0 && r->numbered[k] != KINDS[k].answers) {
+            printf("  by its number %s gave the answers 0x%X, not 0x%X\n", KINDS[k].name, r->numbered[k],
+                   KINDS[k].answers);
+            all = false;
+        }
+    for (size_t i = 0; i < NO_KIND_COUNT; i++)
+        if (!r->no_kinds[i][0] || !r->no_kinds[i][1]) {
+            printf("  kind 0x%" PRIX64 " was never refused over a %s store\n", NO_KINDS[i],
+                   r->no_kinds[i][0] ? "bad" : "good");
+            all = false;
+        }
+    return all;
+}
+
 static const struct {
     unsigned access;
     const char *missing;
@@ -819,7 +911,7 @@ static int finish(const struct run *r)
 {
     if (!r->quiet)
         print_tally(stdout, r->tally, manner_of(r));
-    static const char *const established[] = { "agreement", "unchanged", "guards", "order" };
+    static const char *const established[] = { "agreement", "unchanged", "guards", "order", "numbered" };
     for (size_t i = 0; i < COUNT(established); i++)
         printf("passed compare %s %s\n", LAYOUTS[r->size].name, established[i]);
     bool all = stores_covered(&r->stores, manner_of(r));
@@ -835,6 +927,7 @@ static int finish(const struct run *r)
     all = clocks_covered(r) && all;
     all = bitmaps_covered(r) && all;
     all = hand_overs_covered(r) && all;
+    all = numbers_covered(r) && all;
     printf("%s compare %s coverage\n", all ? "passed" : "failed", LAYOUTS[r->size].name);
     return all ? 0 : 1;
 }

@@ -21,12 +21,10 @@ static unsigned last_slot(void)
 /* False if the call has no such number. */
 static bool put_number(struct call *c, const char *name, uint64_t value)
 {
-    for (int i = 0; i < NUMBERS && c->kind->number[i] != NULL; i++)
-        if (strcmp(c->kind->number[i], name) == 0) {
-            c->n[i] = value;
-            return true;
-        }
-    return false;
+    uint64_t *number = number_named(c, name);
+    if (number != NULL)
+        *number = value;
+    return number != NULL;
 }
 
 static void put_numbers(struct call *c)

@@ -55,6 +55,9 @@ $(rows | sed -E 's/ +/ | /g; s/^/| /; s/$/ |/')
 Ratio of the library's time to that of bench/model.c (built with -O2), in one process, in turns; the median of 201 rounds. The aim is 0.8 or less in each case.
 $(block "make -s speed")
 
+The program \`replay\` and bench/replay_model.c on a recorded night, in turns; processor time.
+$(block "make -s replay-speed")
+
 ## Instructions
 
 Of one call, from its entry to its return, counted by valgrind's callgrind on the same cases: the store is full, and the vCPU is in the last slot. Behind a \`+\` are those of the C library. The gate fails where the library's own count is over this one by more than 3 %.

@@ -125,13 +125,9 @@ static bool all_met(void)
 
 int main(int argc, char **argv)
 {
-    uint64_t seed = SEED, pairs = 200000;
-    if (!read_run(argc, argv, &seed, &pairs)) {
-        fprintf(stderr, "usage: joins [--calls N] [--seed S | --seed fresh]\n");
+    uint64_t pairs = 200000;
+    if (!begin_run(argc, argv, "joins", "each pair at an edge", &pairs))
         return 2;
-    }
-    printf("joins: each pair at an edge, %" PRIu64 " by chance, seed 0x%" PRIX64 "\n", pairs, seed);
-    seed_chance(seed);
     make_memory();
     each_pair(true, compare_edge);
     for (uint64_t i = 0; i < pairs; i++) {

@@ -73,3 +73,12 @@ bool guards_intact(enum piece p, enum side s, size_t n)
     return memcmp(memory[s][p] - GUARD, memory[BEFORE][p] - GUARD, GUARD) == 0 &&
            memcmp(memory[s][p] + n, memory[BEFORE][p] + n, GUARD) == 0;
 }
+
+const char *broken(enum piece p, size_t n, bool may_write)
+{
+    if (!guards_intact(p, LIBRARY, n) || !guards_intact(p, OTHER, n))
+        return "guards";
+    if (!may_write)
+        return same_bytes(p, LIBRARY, BEFORE, n) && same_bytes(p, OTHER, BEFORE, n) ? NULL : "unchanged";
+    return same_bytes(p, LIBRARY, OTHER, n) ? NULL : "agreement";
+}

@@ -41,6 +41,10 @@ void renew(enum side s);
 
 bool same_bytes(enum piece p, enum side a, enum side b, size_t n);
 
+/* What a call on both sides broke in a piece of which n bytes count, or NULL: "guards", what lies beside them;
+   "unchanged", bytes that it may not write; "agreement" of what both wrote. */
+const char *broken(enum piece p, size_t n, bool may_write);
+
 /* Whether what lies beside the first n bytes is as it was. */
 bool guards_intact(enum piece p, enum side s, size_t n);
 

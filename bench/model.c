@@ -1,6 +1,6 @@
 /*
  * model.c: the rules of document 01 in plain C, as the requests of 02 amend them. It shares no text with the library,
- * so that a mistake in either shows as a difference. Quoted names are sections of 01; L1, L2, L4, L6, L7, L8 and L12 are
+ * so that a mistake in either shows as a difference. Quoted names are sections of 01; L1, L2, L4, L6 to L9 and L12 are
  * requests of 02.
  */
 #include "model.h"
@@ -1034,4 +1034,67 @@ adk_answer mdl_join(const uint8_t *first, size_t first_len, const uint8_t *secon
     memcpy(result + 4, first + 4, a.offset - 4);
     memcpy(result + a.offset, second + 4, b.offset - 4);
     return answer(0, len);
+}
+
+/*
+ * L9: "kind (4 bits, 1 to 8 in the order of 01's list of calls)": a call by its number. "Create takes its token, and
+ * capabilities its bitmap, from the third number." "In a run the data is the input." Another kind is 19 before any look
+ * at the store.
+ */
+adk_answer mdl_call(uint8_t *store, size_t store_len, uint64_t kind, uint64_t flags, uint64_t guest, uint64_t number,
+                    uint64_t exit_reason, uint8_t *data, size_t data_len, uint8_t *output, size_t output_len,
+                    const uint8_t *effect, size_t effect_len)
+{
+    switch (kind) {
+    case 1: return mdl_get_capabilities(store, store_len, flags);
+    case 2: return mdl_set_capabilities(store, store_len, flags, number);
+    case 3: return mdl_create_guest(store, store_len, flags, number);
+    case 4: return mdl_create_vcpu(store, store_len, flags, guest, number);
+    case 5: return mdl_get_state(store, store_len, flags, guest, number, data, data_len);
+    case 6: return mdl_set_state(store, store_len, flags, guest, number, data, data_len);
+    case 7:
+        return mdl_run_vcpu(store, store_len, flags, guest, number, data, data_len, output, output_len, effect,
+                            effect_len, exit_reason);
+    case 8: return mdl_delete_guest(store, store_len, flags, guest);
+    default: return answer(19, 0);
+    }
+}
+
+/* L9, a record's head: 242 bits, and "padding zero to the next byte". */
+enum { HEAD_SIZE = 31, EXIT_MOST = 4095, LENGTH_MOST = 131071 };
+
+/* Writes the last bits of a number, the most significant of them first, and gives back where they end. */
+static unsigned put_field(uint8_t *p, unsigned at, unsigned bits, uint64_t number)
+{
+    for (unsigned left = bits; left > 0; left--)
+        put_bit(p, at++, (number >> (left - 1) & 1) != 0);
+    return at;
+}
+
+/*
+ * L9: "A call record is packed most significant first: kind (4 bits, 1 to 8 ..), flags (64), guest (64), vCPU, token or
+ * bitmap (64), exit reason (12), lengths of data and of effect (17 each), padding zero to the next byte; then the two
+ * pieces of data." What no record holds is 19, then 12 with R4 1 if the lent bytes are too short; R4 is the length.
+ */
+adk_answer mdl_write_record(uint8_t *bytes, size_t bytes_len, uint64_t kind, uint64_t flags, uint64_t guest,
+                            uint64_t number, uint64_t exit_reason, const uint8_t *data, size_t data_len,
+                            const uint8_t *effect, size_t effect_len)
+{
+    if (kind < 1 || kind > 8 || exit_reason > EXIT_MOST)
+        return answer(19, 0);
+    if (data_len > LENGTH_MOST || effect_len > LENGTH_MOST)
+        return answer(19, 0);
+    if (bytes_len < HEAD_SIZE + data_len + effect_len)
+        return answer(12, 1);
+    unsigned at = put_field(bytes, 0, 4, kind);
+    at = put_field(bytes, at, 64, flags);
+    at = put_field(bytes, at, 64, guest);
+    at = put_field(bytes, at, 64, number);
+    at = put_field(bytes, at, 12, exit_reason);
+    at = put_field(bytes, at, 17, data_len);
+    at = put_field(bytes, at, 17, effect_len);
+    put_field(bytes, at, 8 * HEAD_SIZE - at, 0);
+    memcpy(bytes + HEAD_SIZE, data, data_len);
+    memcpy(bytes + HEAD_SIZE + data_len, effect, effect_len);
+    return answer(0, HEAD_SIZE + data_len + effect_len);
 }

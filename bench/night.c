@@ -707,6 +707,14 @@ const struct kind KINDS[] = {
       .answers = A(0) | A(5) | A(6) | A(7), .both = A(6) | A(7) },
 };
 
+uint64_t *number_named(struct call *c, const char *name)
+{
+    for (int i = 0; i < NUMBERS && c->kind->number[i] != NULL; i++)
+        if (strcmp(c->kind->number[i], name) == 0)
+            return &c->n[i];
+    return NULL;
+}
+
 bool is_run(const struct kind *k)
 {
     return k->use[EFFECT] != NOT_LENT;
@@ -743,6 +751,25 @@ bool sets_capabilities(const struct kind *k)
 bool converts(const struct kind *k)
 {
     return k->make == make_convert;
+}
+
+bool makes_fresh(const struct kind *k)
+{
+    return k->make == make_fresh_store;
+}
+
+unsigned record_kind(const struct kind *k)
+{
+    static const __typeof__(k->make) makers[] = {
+        [ADK_KIND_GET_CAPABILITIES] = make_get_capabilities, [ADK_KIND_SET_CAPABILITIES] = make_set_capabilities,
+        [ADK_KIND_CREATE_GUEST] = make_create_guest, [ADK_KIND_CREATE_VCPU] = make_create_vcpu,
+        [ADK_KIND_GET_STATE] = make_get_state, [ADK_KIND_SET_STATE] = make_set_state,
+        [ADK_KIND_RUN_VCPU] = make_run_vcpu, [ADK_KIND_DELETE_GUEST] = make_delete_guest
+    };
+    unsigned kind = COUNT(makers) - 1;
+    while (kind > 0 && k->make != makers[kind])
+        kind--;
+    return kind;
 }
 
 bool is_made(const struct kind *k, struct manner m)

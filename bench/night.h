@@ -48,6 +48,9 @@ extern const struct kind {
     enum hand hand; /* a get or set state that asks for no elements */
 } KINDS[KIND_COUNT];
 
+/* The call's number of this name, "flags" or another of its row; NULL if it has none. */
+uint64_t *number_named(struct call *c, const char *name);
+
 bool is_run(const struct kind *k);
 
 /* Whether what the call takes goes by the guest's list: thread get and set state, and run. */
@@ -59,6 +62,10 @@ bool is_clock(const struct kind *k);
 bool is_delete(const struct kind *k);
 bool sets_capabilities(const struct kind *k);
 bool converts(const struct kind *k);
+bool makes_fresh(const struct kind *k);
+
+/* L9: the kind of the call's record, or 0 where it has none. */
+unsigned record_kind(const struct kind *k);
 
 /* Exit reasons; and numbers close to one, other interrupts, and exit reasons where only the low or the high bits are
    kept. */

@@ -32,6 +32,16 @@ static bool read_report(struct order *o, const char *value)
     return read_text(value, &o->report);
 }
 
+static bool read_record(struct order *o, const char *value)
+{
+    return read_text(value, &o->record);
+}
+
+static bool read_answers(struct order *o, const char *value)
+{
+    return read_text(value, &o->answers);
+}
+
 static bool read_calls(struct order *o, const char *value)
 {
     return read_between(value, 1, UINT32_MAX, &o->calls);
@@ -113,6 +123,10 @@ static const struct option {
       "a night of the large store, of 63 guests and 64 slots; some of its stores are small\n"
       "ones that are converted, if the vendor exports adk_convert" },
     { "--report", "FILE", read_report, "the name of a file", "write the score as a page, to be opened in a browser" },
+    { "--record", "FILE", read_record, "the name of a file",
+      "write the calls as records, for the program replay; only with --opaque" },
+    { "--answers", "FILE", read_answers, "the name of a file",
+      "write what replay prints for these records: the library's answers" },
     { "--calls", "N", read_calls, A_CALL, "how many calls the night has (200000)" },
     { "--seed", "S", read_order_seed, "a number of at most 64 bits, or the word fresh",
       "the number that the night is made from, or the word fresh: one of its own" },
@@ -204,6 +218,16 @@ static const char *beside(const char *program)
     return path;
 }
 
+/* Records are made again on a small store that changes by calls only. */
+static bool fit_recording(const struct order *o, const char *option, const char *file)
+{
+    if (file != NULL && o->manner.large)
+        return unfit(option, file, "not together with --large, since replay has a small store");
+    if (file != NULL && !o->manner.opaque)
+        return unfit(option, file, "only with --opaque, since no record tells what is written between calls");
+    return true;
+}
+
 bool read_order(struct order *o, int argc, char **argv)
 {
     *o = (struct order){ .program = argv[0], .seed = SEED, .calls = 200000, .jobs = 1, .seconds = USUAL_SECONDS };
@@ -212,6 +236,10 @@ bool read_order(struct order *o, int argc, char **argv)
             return false;
     if (o->only != 0 && o->report != NULL)
         return unfit("--report", o->report, "not together with --only, which tells one call");
+    if (!fit_recording(o, "--record", o->record) || !fit_recording(o, "--answers", o->answers))
+        return false;
+    if (o->record != NULL || o->answers != NULL)
+        o->jobs = 1; /* so that calls are written in their order */
     if (o->only != 0) {
         o->calls = o->only;
         o->jobs = 1;

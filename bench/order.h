@@ -19,6 +19,8 @@ struct order {
     struct manner manner;
     bool csv;
     const char *report;     /* the page's file, or NULL */
+    const char *record;     /* the file of the calls' records, or NULL */
+    const char *answers;    /* the file of the answers to these calls, or NULL */
     bool help, version;
 };
 

@@ -28,6 +28,7 @@ struct job {
     struct figures *figures;
     struct vendor vendor;
     const volatile int *stop;
+    struct recording *recording;
 };
 
 /* ---- A part ---- */
@@ -84,6 +85,7 @@ static bool make_one(struct job *j, struct made *m, unsigned *ends)
     if (!m->deed.made)
         return false;
     note_made(j, m);
+    record_call(j->recording, m);
     settle(m);
     *ends += j->vendor.pid == 0;
     return *ends < ENDS_MOST && !(j->order->manner.opaque && !agrees(m) && keeps_something_else(m));
@@ -123,6 +125,8 @@ static int make_parts(struct job *j, uint64_t remainder)
         make_part(j, part);
     close_vendor(&j->vendor);
     free_memory();
+    if (!end_recording(j->recording, j->order))
+        return 1;
     if (j->order->only == 0 || (fflush(stdout) == 0 && !ferror(stdout)))
         return 0;
     fprintf(stderr, "score: cannot write standard output: %s\n", strerror(errno));
@@ -130,10 +134,11 @@ static int make_parts(struct job *j, uint64_t remainder)
 }
 
 /* A job heeds the score alone, which is told to stop with it. */
-static _Noreturn void be_job(const struct order *o, struct shared *shared, uint64_t number, pid_t score)
+static _Noreturn void be_job(const struct order *o, struct recording *r, struct shared *shared, uint64_t number,
+                             pid_t score)
 {
     static const int not_heeded[] = { SIGINT, SIGTERM, SIGHUP };
-    struct job j = { .order = o, .figures = &shared->jobs[number], .stop = &shared->stop };
+    struct job j = { .order = o, .figures = &shared->jobs[number], .stop = &shared->stop, .recording = r };
     j.vendor = (struct vendor){ .path = o->vendor, .keeps_store = o->manner.opaque, .stop = &shared->stop,
                                 .seconds = (unsigned)o->seconds };
     prctl(PR_SET_PDEATHSIG, SIGKILL);
@@ -201,14 +206,14 @@ static bool await_jobs(const struct order *o, const struct shared *shared)
     return well;
 }
 
-static bool start_jobs(const struct order *o, struct shared *shared)
+static bool start_jobs(const struct order *o, struct recording *r, struct shared *shared)
 {
     pid_t score = getpid();
     fflush(stdout);
     for (uint64_t i = 0; i < o->jobs; i++) {
         pid_t pid = fork();
         if (pid == 0)
-            be_job(o, shared, i, score);
+            be_job(o, r, shared, i, score);
         if (pid < 0) {
             shared->stop = 1;
             return false;
@@ -217,14 +222,14 @@ static bool start_jobs(const struct order *o, struct shared *shared)
     return true;
 }
 
-enum night_end make_night(const struct order *o, struct figures *figures)
+enum night_end make_night(const struct order *o, struct recording *recording, struct figures *figures)
 {
     size_t size = sizeof(struct shared) + o->jobs * sizeof(struct figures);
     struct shared *shared = mmap(NULL, size, PROT_READ | PROT_WRITE, MAP_SHARED | MAP_ANONYMOUS, -1, 0);
     if (shared == MAP_FAILED)
         return NIGHT_LOST;
     heed_stop(shared);
-    bool well = start_jobs(o, shared) && await_jobs(o, shared);
+    bool well = start_jobs(o, recording, shared) && await_jobs(o, shared);
     add_figures(figures, shared->jobs, o->jobs);
     return !well ? NIGHT_LOST : shared->stop ? NIGHT_STOPPED : NIGHT_MADE; /* a late signal still finds its word */
 }

@@ -11,13 +11,14 @@
 
 #include "figures.h"
 #include "order.h"
+#include "recording.h"
 
 enum { PART = 1000, ENDS_MOST = 16 };
 
 enum night_end { NIGHT_MADE, NIGHT_STOPPED, NIGHT_LOST };
 
-/* Makes the night and adds up its figures. It is stopped by INT, TERM and HUP, and lost if a job ends before its time.
-   With --only the call is told on standard output. */
-enum night_end make_night(const struct order *o, struct figures *figures);
+/* Makes the night, records it and adds up its figures. It is stopped by INT, TERM and HUP, and lost if a job ends
+   before its time. With --only the call is told on standard output. */
+enum night_end make_night(const struct order *o, struct recording *recording, struct figures *figures);
 
 #endif

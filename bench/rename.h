@@ -16,3 +16,5 @@
 #define mdl_convert adk_convert
 #define mdl_lookup adk_lookup
 #define mdl_join adk_join
+#define mdl_call adk_call
+#define mdl_write_record adk_write_record

@@ -3,7 +3,7 @@
  *
  *     make score VENDOR=./vendor.so
  *     score [--vendor FILE] [--opaque] [--large] [--report FILE] [--calls N] [--seed S] [--jobs N] [--only N] [--csv]
- *           [--nops]
+ *           [--nops] [--record FILE] [--answers FILE]
  *
  * The vendor's library is a shared object that exports the functions of adderknot.h. It runs in a process of its own.
  * Each call is made on both sides with the same numbers and bytes; the answer, each lent byte and the bytes beside them
@@ -120,12 +120,12 @@ static int told_one(const struct result *r, const struct figures *figures)
     return UNFIT;
 }
 
-static int make_score(struct result *r, struct figures *figures, FILE *page)
+static int make_score(struct result *r, struct figures *figures, struct recording *recording, FILE *page)
 {
     struct timespec begun;
     r->start = time(NULL);
     clock_gettime(CLOCK_MONOTONIC, &begun);
-    enum night_end end = make_night(r->order, figures);
+    enum night_end end = make_night(r->order, recording, figures);
     r->seconds = seconds_since(&begun);
     if (end == NIGHT_LOST) {
         fprintf(stderr, "score: a part of the night was lost\n");
@@ -147,6 +147,7 @@ int main(int argc, char **argv)
     static struct figures figures;
     struct order order;
     struct result result = { .order = &order, .figures = &figures };
+    struct recording recording;
     FILE *page;
     keep_descriptors();
     if (!read_order(&order, argc, argv))
@@ -159,8 +160,8 @@ int main(int argc, char **argv)
         return arrived(stdout, "standard output") ? PASSED : UNFIT;
     }
     prctl(PR_SET_DUMPABLE, 0); /* so that the vendor's process, which has the same user, cannot look into this one */
-    if (!fit_vendor(&order, &result) || !open_page(&order, &page))
+    if (!fit_vendor(&order, &result) || !open_page(&order, &page) || !open_recording(&recording, &order))
         return UNFIT;
     announce(&order);
-    return make_score(&result, &figures, page);
+    return make_score(&result, &figures, &recording, page);
 }

@@ -7,14 +7,17 @@
  *     shallow --memset         how deep the C library's memset goes, its return address not counted
  *
  * The deepest cases (deep.h) are made twice: with the longest buffers; and with shorter ones step by step, so that what
- * is reserved and never written counts (depth.h). Each entry must be seen to go as deep as bench/stack.sh computes from
- * its machine code. So it is run in the repository's folder. Lines 'passed shallow ..' or 'failed shallow ..' say what
- * was established. A call that goes deeper than the stack ends the program by a signal; that it does is tried first.
+ * is reserved and never written counts (depth.h). Those of the eight calls are made by their number too. Each entry must
+ * be seen to go as deep as bench/stack.sh computes from its machine code. So it is run in the repository's folder. Lines
+ * 'passed shallow ..' or 'failed shallow ..' say what was established. A call that goes deeper than the stack ends the
+ * program by a signal; that it does is tried first.
  */
 #define _GNU_SOURCE
 #include "chance.h"
 #include "deep.h"
 #include "depth.h"
+#include "fields.h"
+#include "numbered.h"
 #include "pairs.h"
 
 #include <inttypes.h>
@@ -30,7 +33,7 @@
 static struct seen {
     const char *name;
     unsigned deepest, computed, accepted, refused, wrong;
-} seen[16];
+} seen[20];
 
 static struct seen *last_seen; /* the entry that was called last */
 
@@ -106,6 +109,18 @@ static adk_found on_lookup(const uint8_t *b, size_t len, uint16_t id)
 static adk_answer on_join(const uint8_t *a, size_t a_len, const uint8_t *b, size_t b_len, uint8_t *result, size_t len)
     SHALLOW(adk_answer, join, AT(a), a_len, AT(b), b_len, AT(result), len)
 
+static adk_answer on_call(uint8_t *s, size_t n, uint64_t kind, uint64_t flags, uint64_t guest, uint64_t number,
+                          uint64_t exit_reason, uint8_t *data, size_t data_len, uint8_t *output, size_t output_len,
+                          const uint8_t *effect, size_t effect_len)
+    SHALLOW(adk_answer, call, AT(s), n, kind, flags, guest, number, exit_reason, AT(data), data_len, AT(output),
+            output_len, AT(effect), effect_len)
+
+static adk_answer on_write_record(uint8_t *bytes, size_t n, uint64_t kind, uint64_t flags, uint64_t guest,
+                                  uint64_t number, uint64_t exit_reason, const uint8_t *data, size_t data_len,
+                                  const uint8_t *effect, size_t effect_len)
+    SHALLOW(adk_answer, write_record, AT(bytes), n, kind, flags, guest, number, exit_reason, AT(data), data_len,
+            AT(effect), effect_len)
+
 #define L0_SHALLOW_ENTRY(name) .name = on_##name,
 
 static const struct l0 ordinary = L0_LIBRARY, shallow = { L0_ENTRIES(L0_SHALLOW_ENTRY) };
@@ -159,12 +174,25 @@ static bool reserved_is_seen(void)
     return painted == 8 && stepped == 208;
 }
 
+/* A call on the shallow stack: by its own entry, or by its number. */
+typedef adk_found make_shallow(const struct call *c);
+
+static adk_found by_entry(const struct call *c)
+{
+    return c->kind->make(&shallow, c, memory[OTHER]);
+}
+
+static adk_found numbered(const struct call *c)
+{
+    struct numbered n = by_number(c, c->n[0]);
+    return make_numbered(on_call, &n, memory[OTHER]);
+}
+
 /* One call on both stacks; answer is that on the shallow one. What the ordinary one left is what the next call of a
    night starts from. */
-static bool call_agrees(const struct call *c, uint64_t *answer)
+static bool call_agrees(const struct call *c, make_shallow *make, uint64_t *answer)
 {
-    adk_found a = c->kind->make(&ordinary, c, memory[LIBRARY]);
-    adk_found b = c->kind->make(&shallow, c, memory[OTHER]);
+    adk_found a = c->kind->make(&ordinary, c, memory[LIBRARY]), b = make(c);
     bool good = same_answer(&a, &b);
     for (int p = 0; p < PIECES; p++) {
         size_t n = extent(c, p);
@@ -179,24 +207,49 @@ static bool call_agrees(const struct call *c, uint64_t *answer)
 
 static unsigned answered[KIND_COUNT]; /* the answers that each call gave, as bits */
 
-static void try_deep(const struct call *c, uint64_t answer, const char *what)
+/* Counts a case of the entry that was called last. */
+static void count(uint64_t given, bool good)
 {
-    uint64_t given;
-    bool good = call_agrees(c, &given) && given == answer;
-    answered[c->kind - KINDS] |= A(given);
     last_seen->accepted += given == ADK_OK;
     last_seen->refused += given != ADK_OK;
     last_seen->wrong += !good;
+}
+
+static void try_by(const struct call *c, make_shallow *make, uint64_t answer, const char *what)
+{
+    uint64_t given;
+    bool good = call_agrees(c, make, &given) && given == answer;
+    answered[c->kind - KINDS] |= A(given);
+    count(given, good);
     if (!good)
         printf("  %s, %s: answer %" PRIu64 ", not %" PRIu64 ", or other bytes\n", c->kind->name, what, given, answer);
 }
 
-/* Whether the deepest cases could be made on a store of this size, and gave each answer that there is. */
-static bool deepest_cases(enum size size, bool longest)
+static void try_deep(const struct call *c, uint64_t answer, const char *what)
 {
-    bool all = each_case(size, longest, try_deep);
+    try_by(c, by_entry, answer, what);
+}
+
+/* By its number; and before, by a kind that is none of the eight, which changes nothing. */
+static void try_numbered(const struct call *c, uint64_t answer, const char *what)
+{
+    const adk_found refused = { .r3 = ADK_BAD_RECORD };
+    struct numbered n = by_number(c, 0);
+    if (n.kind == 0)
+        return;
+    n.kind += 8;
+    adk_found f = make_numbered(on_call, &n, memory[OTHER]);
+    count(f.r3, same_answer(&f, &refused) && numbered_holds(&n, c, &refused));
+    try_by(c, numbered, answer, what);
+}
+
+/* Whether the deepest cases could be made on a store of this size, and gave each answer that there is. */
+static bool cases_agree(enum size size, bool longest, try_case *try)
+{
+    bool all = each_case(size, longest, try);
     for (size_t k = 0; k < KIND_COUNT; k++) {
-        unsigned answers = size == LARGE && converts(&KINDS[k]) ? 0 : KINDS[k].answers;
+        bool made = try == try_numbered ? record_kind(&KINDS[k]) != 0 : size == SMALL || !converts(&KINDS[k]);
+        unsigned answers = made ? KINDS[k].answers : 0;
         if (answered[k] != answers)
             printf("  %s gave the answers 0x%X, not 0x%X\n", KINDS[k].name, answered[k], answers);
         all &= answered[k] == answers;
@@ -205,17 +258,34 @@ static bool deepest_cases(enum size size, bool longest)
     return all;
 }
 
+static bool deepest_cases(enum size size, bool longest)
+{
+    bool all = cases_agree(size, longest, try_deep);
+    return cases_agree(size, longest, try_numbered) && all;
+}
+
 static void try_join(const struct pair *p)
 {
     adk_found wanted = plain(p->answer);
     adk_found a = plain(join_pair(adk_join, LIBRARY, p)), b = plain(join_pair(on_join, OTHER, p));
     bool good = same_answer(&a, &b) && same_answer(&b, &wanted) && same_pieces(p) && only_lent_changed(p);
-    last_seen->accepted += b.r3 == ADK_OK;
-    last_seen->refused += b.r3 != ADK_OK;
-    last_seen->wrong += !good;
+    count(b.r3, good);
     if (!good)
         printf("  join, first %s, second %s: answer %" PRIu64 ", or other bytes\n", p->first, p->second, b.r3);
     share(RESULT, 0, p->len[RESULT]);
+}
+
+static void try_record(const struct fields *f)
+{
+    adk_found wanted = plain(f->answer), a = plain(write_fields(adk_write_record, LIBRARY, f));
+    adk_found b = plain(write_fields(on_write_record, OTHER, f));
+    size_t n = wanted.r3 == ADK_OK ? wanted.r4 : 0;
+    bool good = same_answer(&a, &b) && same_answer(&b, &wanted) && rest_is_kept(OTHER, n) &&
+                memcmp(written_by(LIBRARY), written_by(OTHER), n) == 0;
+    count(b.r3, good);
+    if (!good)
+        printf("  write_record, %s, %zu bytes lent: answer %" PRIu64 ", or other bytes\n", f->what, f->room, b.r3);
+    forget_written(n);
 }
 
 static bool stepped_cases(enum size size)
@@ -233,7 +303,7 @@ static bool night_agrees(enum size size, uint64_t calls)
     for (uint64_t i = 1; i <= calls; i++) {
         struct call c = next_call(i);
         uint64_t answer;
-        if (!call_agrees(&c, &answer)) {
+        if (!call_agrees(&c, i % 4 == 0 && record_kind(c.kind) != 0 ? numbered : by_entry, &answer)) {
             printf("  call %" PRIu64 ", %s\n", i, c.kind->name);
             return false;
         }
@@ -323,9 +393,12 @@ int main(int argc, char **argv)
     for (enum size size = 0; size < SIZES; size++)
         try_size(size, calls);
     share_all();
-    each_pair(true, try_join);
-    step_calls(true);
-    each_pair(false, try_join);
+    make_fields();
+    for (int stepped = 0; stepped < 2; stepped++) {
+        step_calls(stepped != 0);
+        each_pair(stepped == 0, try_join);
+        each_fields(stepped == 0, try_record);
+    }
     step_calls(false);
     read_computed();
     for (size_t i = 0; seen[i].name != NULL; i++)

@@ -310,13 +310,54 @@ enum {
 #define ADK_FORM_MAX 1844
 
 /*
+ * CALL RECORDS
+ *
+ * A call can be written down as a record, and made by its number: adk_write_record and adk_call. Records follow each
+ * other without gaps; so they are a night that can be made again, from a fresh store, without the bench that made it. A
+ * record is bits, packed most significant first:
+ *
+ *     4 bits      the kind, 1 to 8: which call it is
+ *     64 bits     the flags
+ *     64 bits     the guest
+ *     64 bits     the number: the vCPU, the token of create guest, the bitmap of set capabilities
+ *     12 bits     the exit reason
+ *     17 bits     the length of the data in bytes
+ *     17 bits     the length of the effect in bytes
+ *     6 bits      zero
+ *                 from byte 31 on the data, behind it the effect
+ *
+ * The data is the buffer of get and set state, and the input of a run. Of a get state it is what was lent. What a call
+ * has no use for may be anything and is ignored. An output is not recorded: it is lent as registered, with as many
+ * bytes as the size in element 0x0C01 says where that meets its rule, and with none where it does not.
+ */
+enum {
+    ADK_KIND_GET_CAPABILITIES = 1,
+    ADK_KIND_SET_CAPABILITIES = 2,
+    ADK_KIND_CREATE_GUEST = 3,
+    ADK_KIND_CREATE_VCPU = 4,
+    ADK_KIND_GET_STATE = 5,
+    ADK_KIND_SET_STATE = 6,
+    ADK_KIND_RUN_VCPU = 7,
+    ADK_KIND_DELETE_GUEST = 8
+};
+
+/* The bytes before the data; the most that data and effect can have, each; and the most that a record can have. */
+#define ADK_RECORD_HEAD 31
+#define ADK_RECORD_PIECE_MAX 131071
+#define ADK_LONGEST_RECORD 262173
+
+/* The greatest exit reason that a record holds; those of a run are all below. */
+#define ADK_RECORD_EXIT_MAX 4095
+
+/*
  * THE ANSWERS
  *
  * An answer is three numbers, the registers R3, R4 and R5 after the hypercall. r4 and r5 are 0 where nothing is said.
  *
  *     r3                          Given when
  *  0  ADK_OK                      success. r4: get capabilities, the offered bitmap; create guest, the guest's
- *                                 number; run, the exit reason; clock, the time; join, the joined length
+ *                                 number; run, the exit reason; clock, the time; join, the joined length; writing a
+ *                                 record, its length
  *  1  ADK_BAD_STORE               the store is not well formed; conversion: the source is not a well-formed small one
  *  2  ADK_BAD_FLAG                a flag bit is set that the call does not support. r4: the lowest-numbered such bit
  *  3  ADK_BAD_PARAMETER           the guest is not live; create guest: the token is not ADK_TOKEN; set capabilities:
@@ -338,16 +379,18 @@ enum {
  * 10  ADK_VCPU_EXISTS             the vCPU already exists
  * 11  ADK_NOT_REGISTERED          run: a run buffer is not registered. r4: 0 input, 1 output
  * 12  ADK_LENT_TOO_SHORT          run: a lent run buffer is shorter than registered. r4: 0 input, 1 output. Join: the
- *                                 result is too short. r4: 1
+ *                                 result is too short; writing a record: the bytes are. r4: 1
  * 13  ADK_UNKNOWN_EXIT            run: unknown exit reason
  * 14  ADK_BAD_EFFECT              run: the effect has under ADK_BUFFER_MIN or over ADK_BUFFER_MAX bytes, or a bad
  *                                 element. r4: the byte offset of its first bad element; r5: that one's index; both 0
  *                                 if its length is bad
  * 16  ADK_WRONG_OWNER             get state, set state and run of a vCPU: it is taken; giving back: it is not
  * 17  ADK_BAD_FORM                giving back: the buffer does not begin with a form of this vCPU
+ * 19  ADK_BAD_RECORD              a call by its number: the kind is none of the eight. Writing a record: no record
+ *                                 holds what is given
  * 21  ADK_CAPABILITIES_IN_USE     set capabilities: a guest is live, and the bitmap is not the agreed one
  *
- * 15 is a fault of the L1 cache, which C cannot call. 18 to 20 are not given.
+ * 15 is a fault of the L1 cache, which C cannot call. 18 and 20 are not given.
  */
 enum {
     ADK_OK = 0,
@@ -367,6 +410,7 @@ enum {
     ADK_BAD_EFFECT = 14,
     ADK_WRONG_OWNER = 16,
     ADK_BAD_FORM = 17,
+    ADK_BAD_RECORD = 19,
     ADK_CAPABILITIES_IN_USE = 21
 };
 
@@ -564,6 +608,41 @@ adk_found adk_lookup(const uint8_t *buffer, size_t buffer_len, uint16_t id);
  */
 adk_answer adk_join(const uint8_t *first, size_t first_len, const uint8_t *second, size_t second_len, uint8_t *result,
                     size_t result_len);
+
+/*
+ * Makes one of the eight calls by its kind: it is that call, with its answers and all that it writes.
+ *
+ *     kind                            the call, with the arguments that it takes of these
+ *     1  ADK_KIND_GET_CAPABILITIES    adk_get_capabilities(store, flags)
+ *     2  ADK_KIND_SET_CAPABILITIES    adk_set_capabilities(store, flags, number)
+ *     3  ADK_KIND_CREATE_GUEST        adk_create_guest(store, flags, number)
+ *     4  ADK_KIND_CREATE_VCPU         adk_create_vcpu(store, flags, guest, number)
+ *     5  ADK_KIND_GET_STATE           adk_get_state(store, flags, guest, number, data)
+ *     6  ADK_KIND_SET_STATE           adk_set_state(store, flags, guest, number, data)
+ *     7  ADK_KIND_RUN_VCPU            adk_run_vcpu(store, flags, guest, number, data, output, effect, exit_reason)
+ *     8  ADK_KIND_DELETE_GUEST        adk_delete_guest(store, flags, guest)
+ *
+ * What the call does not take is ignored, whatever it holds; memory that it does not take is neither read nor written,
+ * and may be lent with 0 bytes. Only a get state writes data, and only a run writes output.
+ *
+ * Answers: ADK_BAD_RECORD (another kind; the store is not looked at), then those of the call.
+ */
+adk_answer adk_call(uint8_t *store, size_t store_len, uint64_t kind, uint64_t flags, uint64_t guest, uint64_t number,
+                    uint64_t exit_reason, uint8_t *data, size_t data_len, uint8_t *output, size_t output_len,
+                    const uint8_t *effect, size_t effect_len);
+
+/*
+ * Writes a call as a record: the first bytes become the record, and the rest stays. It looks at no store, and judges
+ * nothing of the call but that a record can hold it. Bytes of ADK_LONGEST_RECORD hold every record. adderknot_record.h
+ * appends records to a file, and reads them.
+ *
+ * Answers: ADK_BAD_RECORD (a kind that is none of the eight, an exit reason above ADK_RECORD_EXIT_MAX, or data or
+ * effect of over ADK_RECORD_PIECE_MAX bytes), ADK_LENT_TOO_SHORT (r4 1: the record is longer than bytes), ADK_OK (r4:
+ * the length of the record).
+ */
+adk_answer adk_write_record(uint8_t *bytes, size_t bytes_len, uint64_t kind, uint64_t flags, uint64_t guest,
+                            uint64_t number, uint64_t exit_reason, const uint8_t *data, size_t data_len,
+                            const uint8_t *effect, size_t effect_len);
 
 #ifdef __cplusplus
 }

@@ -1,10 +1,9 @@
 /*
- * helps.c: what include/adderknot_gsb.h promises, tried by itself and on the library. It is C99 and C++11, and compiled
- * as both. A line 'passed gsb ..' or 'failed gsb ..' for each case.
+ * helps.c: what include/adderknot_gsb.h and include/adderknot_record.h promise, tried by themselves and on the library.
+ * It is C99 and C++11, and compiled as both. A line 'passed gsb ..' or 'failed gsb ..' for each case.
  */
-#include "adderknot_gsb.h"
+#include "adderknot_record.h"
 
-#include <stdio.h>
 #include <stdlib.h>
 
 static int failures;
@@ -121,6 +120,7 @@ static void names(void)
     check("names of answers and exits", strcmp(adk_answer_name(14), "bad effect") == 0 &&
                                             strcmp(adk_answer_name(16), "wrong owner of the state") == 0 &&
                                             strcmp(adk_answer_name(17), "bad form") == 0 &&
+                                            strcmp(adk_answer_name(19), "bad record") == 0 &&
                                             strcmp(adk_answer_name(20), "no answer of a call") == 0 &&
                                             strcmp(adk_answer_name(21), "capabilities in use") == 0 &&
                                             strcmp(adk_answer_name(UINT64_MAX), "no answer of a call") == 0 &&
@@ -146,6 +146,48 @@ static void papr(void)
     check("PAPR's return codes", right);
 }
 
+static int same_record(const adk_record *a, const adk_record *b)
+{
+    return a->kind == b->kind && a->flags == b->flags && a->guest == b->guest && a->number == b->number &&
+           a->exit_reason == b->exit_reason && a->data_len == b->data_len && a->effect_len == b->effect_len &&
+           (a->data_len == 0 || memcmp(a->data, b->data, a->data_len) == 0) &&
+           (a->effect_len == 0 || memcmp(a->effect, b->effect, a->effect_len) == 0);
+}
+
+/* Two records in a file, of 31 and 36 bytes, and one that is refused and leaves it as it is. */
+static void records(void)
+{
+    static const uint8_t data[] = { 1, 2, 3 }, effect[] = { 9, 8 };
+    static const adk_record first = { ADK_KIND_CREATE_GUEST, 0, 0, ADK_TOKEN, 0, NULL, 0, NULL, 0 };
+    static const adk_record second = { ADK_KIND_RUN_VCPU, ADK_BIT(2), 1, ADK_VCPU_MAX, ADK_EXIT_HCALL, data, 3,
+                                       effect, 2 };
+    static const adk_record third = { 9, 0, 0, 0, 0, NULL, 0, NULL, 0 };
+    uint8_t room[64], bytes[128];
+    adk_record read;
+    size_t n;
+    FILE *file = tmpfile();
+    int appended = file != NULL && adk_append_record(file, &first, room, sizeof room) &&
+                   !adk_append_record(file, &third, room, sizeof room) &&
+                   !adk_append_record(file, &second, room, 35) && adk_append_record(file, &second, room, 36);
+    check("records appended to a file", appended);
+    if (!appended)
+        return;
+    rewind(file);
+    n = fread(bytes, 1, sizeof bytes, file);
+    fclose(file);
+    check("records read", n == 31 + 36 && adk_read_record(&read, bytes, n) == 31 && same_record(&read, &first) &&
+                              adk_read_record(&read, bytes + 31, n - 31) == 36 && same_record(&read, &second) &&
+                              adk_record_length(&read) == 36 && read.data == bytes + 62 && read.effect == bytes + 65);
+    check("a record that is cut", adk_read_record(&read, bytes + 31, 35) == 0 &&
+                                      adk_read_record(&read, bytes + 31, 30) == 0 &&
+                                      adk_read_record(&read, bytes, 0) == 0);
+    check("a head alone", adk_read_head(&read, bytes + 31) && read.data_len == 3 && read.data == NULL);
+    bytes[30] |= 1;
+    check("padding that is not zero", !adk_read_head(&read, bytes) && adk_read_record(&read, bytes, 31) == 0);
+    bytes[31] = 0x9F;
+    check("a kind that is none", !adk_read_head(&read, bytes + 31) && adk_read_record(&read, bytes + 31, 36) == 0);
+}
+
 int main(void)
 {
     uint8_t *store = (uint8_t *)malloc(ADK_STORE_SIZE);
@@ -162,6 +204,7 @@ int main(void)
     sizes(store, guest.r4);
     names();
     papr();
+    records();
     free(store);
     return failures != 0;
 }

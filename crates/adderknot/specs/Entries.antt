@@ -2,12 +2,14 @@
 use Prim.Native.Nat.{ℕ}
 use mathlib.Core.List.{List}
 use Rattle.answer.specs.declared.Call.{Call}
-use Rattle.answer.specs.declared.Call.the-variants.{Lookup, Join}
+use Rattle.answer.specs.declared.Call.the-variants.{Lookup, Join, WriteRecord}
 use Rattle.answer.specs.declared.Registers.{Registers}
 use Rattle.answer.specs.Answer.{told}
 use Rattle.gsb.specs.declared.lookups.Found.{Found as Looked}
 use Rattle.gsb.specs.Join.{Joining}
 use Rattle.admission.specs.Refusals.{Outcome}
+use Rattle.l0.specs.Numbered.{Called, kindName}
+use Rattle.records.specs.Write.{Written}
 use Rattle.adderknot.specs.declared.Found.{Found}
 
 pub record Left : Type 0 where
@@ -30,6 +32,21 @@ pub record Filled : Type 0 where
 abbrev pub fills : Call → Outcome → Filled
 fills c o = record { registers = tells c o; store = o .store; buffer = o .buffer }
 
+-- 02, L9: of a call by its number, which is lent two pieces to be written; told by the name of its kind
+pub record Made : Type 0 where
+  pub registers : Registers
+  pub store : List ℕ
+  pub «data» : List ℕ
+  pub output : List ℕ
+
+abbrev pub makes : ℕ → Called → Made
+makes kind c = record {
+  registers = told (kindName kind) (c .answer .fault) (c .answer .value);
+  store = c .store;
+  «data» = c .«data»;
+  output = c .output;
+}
+
 -- a lookup's answer and where the part lies
 abbrev pub foundAt : Looked → Found
 foundAt f = record {
@@ -40,10 +57,13 @@ foundAt f = record {
   len = f .len;
 }
 
--- of a join, which is lent no store: the result
+-- of a join and of a record's writing, which are lent no store: the result
 pub record Wrote : Type 0 where
   pub registers : Registers
   pub result : List ℕ
 
 abbrev pub writes : Joining → Wrote
 writes j = record { registers = told Join (j .answer .fault) (j .answer .value); result = j .result }
+
+abbrev pub writesRecord : Written → Wrote
+writesRecord w = record { registers = told WriteRecord (w .answer .fault) (w .answer .value); result = w .bytes }

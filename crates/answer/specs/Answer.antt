@@ -10,7 +10,7 @@ use Rattle.answer.specs.declared.RunBuffer.the-variants.{Input, Output}
 use Rattle.answer.specs.declared.Fault.{Fault}
 use Rattle.answer.specs.declared.Fault.the-variants.{None, Store, Flag, Guest, Token, Capability, Vcpu, Length, Element, Room, Exists, Unregistered, Short, Exit, Effect, Cache, Taken, Form, Record, InUse}
 use Rattle.answer.specs.declared.Call.{Call}
-use Rattle.answer.specs.declared.Call.the-variants.{FreshStore, GetCapabilities, SetCapabilities, CreateGuest, CreateVcpu, GetState, SetState, RunVcpu, DeleteGuest, GuestClock, Convert, Lookup, Join, CacheWrite, CacheRead, CacheRun}
+use Rattle.answer.specs.declared.Call.the-variants.{FreshStore, GetCapabilities, SetCapabilities, CreateGuest, CreateVcpu, GetState, SetState, RunVcpu, DeleteGuest, GuestClock, Convert, Lookup, Join, WriteRecord, CacheWrite, CacheRead, CacheRun}
 use Rattle.answer.specs.declared.Shown.{Shown}
 use Rattle.answer.specs.declared.Registers.{Registers}
 
@@ -53,6 +53,7 @@ placeShown GuestClock p = noPlace
 placeShown Convert p = noPlace
 placeShown Lookup p = indexFirst p
 placeShown Join p = indexFirst p
+placeShown WriteRecord p = noPlace
 placeShown CacheWrite p = noPlace
 placeShown CacheRead p = noPlace
 placeShown CacheRun p = offsetFirst p

@@ -1,2 +1,2 @@
 mod Answers
-mod ByNumber
+pub mod ByNumber

@@ -17,3 +17,5 @@ pub mod Either
 pub mod Joining
 pub mod JoinEdges
 pub mod ByNumber
+pub mod Replay
+pub mod Night

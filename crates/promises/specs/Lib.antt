@@ -8,3 +8,4 @@ pub mod Mirror
 pub mod Both
 pub mod Joining
 pub mod ByNumber
+pub mod Replay

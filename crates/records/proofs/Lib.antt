@@ -1,3 +1,15 @@
 pub mod Fields
 pub mod Tests
 pub mod Example
+pub mod Lent
+pub mod Windows
+pub mod Played
+pub mod Turns
+pub mod Finished
+pub mod Packed
+pub mod WriteLaws
+pub mod Appended
+pub mod Beside
+pub mod Pieces
+pub mod RoundTrip
+pub mod Repacked

@@ -11,8 +11,8 @@ use borrow.Author.Tests.{lt-leb, le-leb, leb-true, eq-eqb, ne-eqb}
 use lib.ListN.{length}
 use Rattle.records.specs.declared.Head.{Head}
 use Rattle.records.specs.declared.Read.{Read}
-use Rattle.records.specs.declared.Read.the-variants.{Record, Bad}
-use Rattle.records.specs.Record.{isKind, headAt, padding, good, readHead}
+use Rattle.records.specs.declared.Read.the-variants.{Record, Cut, Bad}
+use Rattle.records.specs.Record.{isKind, headAt, padding, headGood, readHead}
 use Rattle.records.specs.Private.{Heads}
 
 -- ---- room
@@ -40,39 +40,39 @@ kind-more k h = sym (simp (le-leb 1 k h))
 
 -- ---- a record read
 module _ (b : List ℕ) (at : ℕ) where
-  pub head-cut : (r : Bool) → r ≡ leb (at + 31) (length b) → r ≡ false → Bad ≡ readHead b at
-  unfolding readHead good
+  pub head-cut : (r : Bool) → r ≡ leb (at + 31) (length b) → r ≡ false → Cut ≡ readHead b at
+  unfolding readHead
   head-cut r e f = sym (simp (sym e ∙ f))
 
   pub other-kind : (r t : Bool) (h : Head) → r ≡ leb (at + 31) (length b) → r ≡ true → Heads b at h → t ≡ isKind (h .kind) → t ≡ false
       → Bad ≡ readHead b at
-  unfolding readHead good
+  unfolding readHead headGood
   other-kind r t h e f i k l =
       let n : isKind (headAt b at .kind) ≡ false = ap (λ (x : Head). isKind (x .kind)) (sym (i .is)) ∙ sym k ∙ l in
       sym (simp (sym e ∙ f, n))
 
   pub padded : (r t : Bool) (h : Head) (p : ℕ) → r ≡ leb (at + 31) (length b) → r ≡ true → Heads b at h → t ≡ isKind (h .kind) → t ≡ true
       → p ≡ padding b at → p ≢ 0 → Bad ≡ readHead b at
-  unfolding readHead good
+  unfolding readHead headGood
   padded r t h p e f i k l q z =
       let n : isKind (headAt b at .kind) ≡ true = ap (λ (x : Head). isKind (x .kind)) (sym (i .is)) ∙ sym k ∙ l in
       let o : eqb (padding b at) 0 ≡ false = ap (λ (x : ℕ). eqb x 0) (sym q) ∙ ne-eqb p 0 z in
       sym (simp (sym e ∙ f, n, o))
 
   pub judged : (r t u : Bool) (h : Head) (p : ℕ) → r ≡ leb (at + 31) (length b) → r ≡ true → Heads b at h → t ≡ isKind (h .kind) → t ≡ true
-      → p ≡ padding b at → p ≡ 0 → u ≡ leb (at + (31 + h .«data_len» + h .«effect_len»)) (length b) → cond u (Record h) Bad ≡ readHead b at
-  unfolding readHead good
+      → p ≡ padding b at → p ≡ 0 → u ≡ leb (at + (31 + h .«data_len» + h .«effect_len»)) (length b) → cond u (Record h) Cut ≡ readHead b at
+  unfolding readHead headGood
   judged r t u h p e f i k l q z m =
       let n : isKind (headAt b at .kind) ≡ true = ap (λ (x : Head). isKind (x .kind)) (sym (i .is)) ∙ sym k ∙ l in
       let o : eqb (padding b at) 0 ≡ true = ap (λ (x : ℕ). eqb x 0) (sym q) ∙ eq-eqb p 0 z in
       let v : u ≡ leb (at + (31 + headAt b at .«data_len» + headAt b at .«effect_len»)) (length b) =
       m ∙ ap (λ (x : Head). leb (at + (31 + x .«data_len» + x .«effect_len»)) (length b)) (i .is) in
-      ap₂ (λ (y : Bool) (x : Head). cond y (Record x) Bad) v (i .is) ∙ sym (simp (sym e ∙ f, n, o))
+      ap₂ (λ (y : Bool) (x : Head). cond y (Record x) Cut) v (i .is) ∙ sym (simp (sym e ∙ f, n, o))
 
   pub cut : (r t u : Bool) (h : Head) (p : ℕ) → r ≡ leb (at + 31) (length b) → r ≡ true → Heads b at h → t ≡ isKind (h .kind) → t ≡ true
-      → p ≡ padding b at → p ≡ 0 → u ≡ leb (at + (31 + h .«data_len» + h .«effect_len»)) (length b) → u ≡ false → Bad ≡ readHead b at
-  cut r t u h p e f i k l q z m g = sym (ap (λ (y : Bool). cond y (Record h) Bad) g) ∙ judged r t u h p e f i k l q z m
+      → p ≡ padding b at → p ≡ 0 → u ≡ leb (at + (31 + h .«data_len» + h .«effect_len»)) (length b) → u ≡ false → Cut ≡ readHead b at
+  cut r t u h p e f i k l q z m g = sym (ap (λ (y : Bool). cond y (Record h) Cut) g) ∙ judged r t u h p e f i k l q z m
 
   pub accepted : (r t u : Bool) (h : Head) (p : ℕ) → r ≡ leb (at + 31) (length b) → r ≡ true → Heads b at h → t ≡ isKind (h .kind) → t ≡ true
       → p ≡ padding b at → p ≡ 0 → u ≡ leb (at + (31 + h .«data_len» + h .«effect_len»)) (length b) → u ≡ true → Record h ≡ readHead b at
-  accepted r t u h p e f i k l q z m g = sym (ap (λ (y : Bool). cond y (Record h) Bad) g) ∙ judged r t u h p e f i k l q z m
+  accepted r t u h p e f i k l q z m g = sym (ap (λ (y : Bool). cond y (Record h) Cut) g) ∙ judged r t u h p e f i k l q z m

@@ -4,10 +4,12 @@ use mathlib.Core.Bool.{Bool, _&&_, cond}
 use mathlib.Core.List.{List}
 use lib.Dec.{eqb, leb}
 use lib.ListN.{length}
+use Rattle.octets.specs.Bytes.{bytesAt}
 use Rattle.octets.specs.Bits.{bits}
+use Rattle.l0.specs.Numbered.{CallRecord}
 use Rattle.records.specs.declared.Head.{Head}
 use Rattle.records.specs.declared.Read.{Read}
-use Rattle.records.specs.declared.Read.the-variants.{Record, Bad}
+use Rattle.records.specs.declared.Read.the-variants.{Record, Cut, Bad}
 
 -- "kind (4 bits, 1 to 8 in the order of 01's list of calls)"
 unfoldable pub isKind : ℕ → Bool
@@ -36,11 +38,24 @@ padding b at = bits b (8 * at + 242) 6
 abbrev pub recordLength : Head → ℕ
 recordLength h = 31 + h .«data_len» + h .«effect_len»
 
--- "the first record that is cut or has another kind or nonzero padding": cut in its head, its data or its effect
-unfoldable pub good : List ℕ → ℕ → Bool
-good b at =
-    leb (at + 31) (length b)
-    && (isKind (headAt b at .kind) && (eqb (padding b at) 0 && leb (at + recordLength (headAt b at)) (length b)))
+unfoldable pub recordAt : List ℕ → ℕ → CallRecord
+recordAt b at = record {
+  kind = headAt b at .kind;
+  flags = headAt b at .flags;
+  guest = headAt b at .guest;
+  number = headAt b at .number;
+  exit = headAt b at .«exit_reason»;
+  «data» = bytesAt b (at + 31) (headAt b at .«data_len»);
+  effect = bytesAt b (at + 31 + headAt b at .«data_len») (headAt b at .«effect_len»);
+}
 
+-- "the first record that is cut or has another kind or nonzero padding": a head that is there is judged, though its data be cut
+unfoldable pub headGood : List ℕ → ℕ → Bool
+headGood b at = isKind (headAt b at .kind) && eqb (padding b at) 0
+
+-- cut in its head, its data or its effect
 unfoldable pub readHead : List ℕ → ℕ → Read
-readHead b at = cond (good b at) (Record (headAt b at)) Bad
+readHead b at =
+    cond (leb (at + 31) (length b))
+    (cond (headGood b at) (cond (leb (at + recordLength (headAt b at)) (length b)) (Record (headAt b at)) Cut) Bad)
+    Cut

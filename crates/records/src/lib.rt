@@ -1,7 +1,17 @@
-// A call record's bytes. `reading` tells a record from bytes that are none; the types are here.
+// Call records: `reading` tells a record from bytes that are none, `writing` makes one, `playing` makes the calls of many, and `lines` says
+// what each one told. The types are here.
+mod lines;
+mod playing;
 mod reading;
+mod writing;
 
+pub use playing::ROOM;
+pub use playing::Replayed;
+pub use playing::Step;
+pub use playing::WINDOW;
+pub use playing::replay;
 pub use reading::read_head;
+pub use writing::write_record;
 ghost use mathlib.Core.Path.{_≡_};
 ghost use Prim.Native.Nat.{_+_};
 ghost use lib.Dec.{leb};
@@ -18,8 +28,10 @@ pub struct Head {
     pub effect_len: usize,
 }
 
+// `Cut`: the bytes end before the record does. `Bad`: no bytes behind them make it a record.
 pub enum Read {
     Record(Head),
+    Cut,
     Bad,
 }
 

@@ -45,12 +45,12 @@ fn padding_at(b: &[u8], at: usize) -> u64
     get56(b, at + 24) % 64
 }
 
-// The record that begins at `at`, or that none does: one that is cut, in its data or its effect too, is none.
+// The record that begins at `at`, or why none does. A head is judged before its data has come.
 pub fn read_head(bytes: &[u8], at: usize) -> Read
     ensures { λ r. ⌜ r ≡ readHead (now (bytes .entry)) at ⌝ }
 {
     if !fits(bytes.len(), at, 31) {
-        return Read::Bad;
+        return Read::Cut;
     }
     let h = head_at(bytes, at);
     if !is_kind(h.kind) {
@@ -60,7 +60,7 @@ pub fn read_head(bytes: &[u8], at: usize) -> Read
         return Read::Bad;
     }
     if !fits(bytes.len(), at, 31 + h.data_len + h.effect_len) {
-        return Read::Bad;
+        return Read::Cut;
     }
     Read::Record(h)
 }

@@ -7,7 +7,7 @@ use Rattle.elements.specs.Table.{table, find, kindOf}
 use Rattle.elements.specs.Later.{offers}
 use Rattle.rules.specs.Rules.{allows, permits, sizeFits, ruleOf, goodValue}
 use Rattle.gsb.specs.Walk.{judged, walkOn, walk, firstBad}
-use Rattle.render.specs.Text.{ascii, shown}
+use Rattle.text.specs.Text.{ascii, shown}
 use Rattle.render.specs.Listing.{firstLine, verdictText, line, onGood, lines, refusedLine, lastLine, listing, example}
 
 pub as-printed : listing example ≡ ascii "elements 2 bytes 24\n0 4 1003 8 ok\n1 16 0003 4 bad\nanswer 6 index 1 offset 16\n"

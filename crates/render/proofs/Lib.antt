@@ -1,4 +1,2 @@
-pub mod Digits
-pub mod Writes
 pub mod Listed
 pub mod Example

@@ -25,9 +25,9 @@ use Rattle.gsb.specs.Walk.{countOf, idAt, sizeAt, badLength, judged, firstBad}
 use Rattle.gsb.proofs.Judged.{good-element}
 use Rattle.render.specs.declared.Rendered.{Rendered}
 use Rattle.render.specs.declared.Rendered.the-variants.{Text, Short}
-use Rattle.render.specs.Text.{Printed, ascii, decimal, hex4}
+use Rattle.text.specs.Text.{Printed, ascii, decimal, hex4}
 use Rattle.render.specs.Listing.{threadSet, firstLine, verdictText, line, onGood, lines, refusedLine, lastLine, listing, room, RenderOutcome, rendered, Within}
-use Rattle.render.proofs.Writes.{wrote-then, wrote-same}
+use Rattle.text.proofs.Writes.{wrote-then, wrote-same}
 
 -- ---- a line, by its parts
 module _ {s : List ℕ} {at : ℕ} {t₁ t₂ t₃ t₄ t₅ : List ℕ} {p₁ p₂ p₃ p₄ p₅ : ℕ} where

@@ -19,7 +19,7 @@ use Rattle.gsb.specs.declared.Walked.the-variants.{Done, Stopped}
 use Rattle.gsb.specs.Walk.{countOf, idAt, sizeAt, badLength, judged, firstBad}
 use Rattle.render.specs.declared.Rendered.{Rendered}
 use Rattle.render.specs.declared.Rendered.the-variants.{Text, Short}
-use Rattle.render.specs.Text.{ascii, decimal, hex4}
+use Rattle.text.specs.Text.{ascii, decimal, hex4}
 
 -- no thread element's rule looks at the capabilities; 02, L7: "L11 and the listing" use the list "of 01"
 abbrev pub threadSet : Context

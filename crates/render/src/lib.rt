@@ -1,6 +1,5 @@
 // The listing of a guest state buffer, rendered into a lent text buffer.
 mod lines;
-mod text;
 
 use gsb::bad_length;
 use lines::push_answer;

@@ -1,8 +1,4 @@
 // The lines of the listing. Each function writes at a place and returns the place after.
-use super::text::push;
-use super::text::push_decimal;
-use super::text::push_field;
-use super::text::push_hex4;
 use answer::Call;
 use answer::Fault;
 use answer::Registers;
@@ -17,10 +13,14 @@ use octets::get16;
 use octets::get32;
 use rules::Context;
 use rules::Usage;
+use text::push;
+use text::push_decimal;
+use text::push_field;
+use text::push_hex4;
 ghost use Prim.Native.Nat.{_+_, _≤_, _<_};
 ghost use lib.ListN.{length};
 ghost use Rattle.gsb.specs.Walk.{countOf, firstBad};
-ghost use Rattle.render.specs.Text.{Printed};
+ghost use Rattle.text.specs.Text.{Printed};
 ghost use Rattle.render.specs.Listing.{threadSet, firstLine, verdictText, line, lines, refusedLine, lastLine};
 
 // The count has at most ten digits, the length five: 32 characters with the words.
@@ -59,8 +59,8 @@ fn push_line(
     requires { ⌜ (index < 100000) × (offset < 100000) × (size < 100000) × (at + 27 ≤ length (now text)) ⌝ }
     ensures { λ r. ⌜ Printed (now (text .entry)) at (line index offset id size verdict) (now (text .exit)) r × (r ≤ at + 27) ⌝ }
 {
-    let mut end = push_field(text, at, index);
-    end = push_field(text, end, offset);
+    let mut end = push_field(text, at, index as u64, 5);
+    end = push_field(text, end, offset as u64, 5);
     end = push_hex4(text, end, id);
     end = push(text, end, b" ");
     end = push_decimal(text, end, size as u64, 5);

@@ -156,12 +156,13 @@ module _ (l : Layout) (s : List ℕ) (guest : ℕ) (wide : Bool) (u : Usage) (k 
   pub get-room : u ≡ getUse wide → base + bytesFor (k .usage) ≤ n
   get-room e = omega (arith, h, g, used, get-bytes wide, ap bytesFor e)
 
-module _ (l : Layout) (s : List ℕ) (flags : ℕ) (wide : Bool) (w : wide ≡ hasBit0 flags) (guest vcpu : ℕ) (b : List ℕ) (a : Target) (x : ℕ) (m : x ≡ supportedBits wide) (q : a ≡ targetOf l s x flags wide guest vcpu) (r : Answer) where
+pub element-bits : (l : Layout) (s : List ℕ) (flags : ℕ) (wide : Bool) (guest vcpu : ℕ) (a : Target) (x : ℕ) → x ≡ supportedBits wide → a ≡ targetOf l s x flags wide guest vcpu
+    → a ≡ targetOf l s (supportedBits wide) flags wide guest vcpu
+element-bits l s flags wide guest vcpu a x m q = q ∙ ap (λ (y : ℕ). targetOf l s y flags wide guest vcpu) m
+
+module _ (l : Layout) (s : List ℕ) (flags : ℕ) (wide : Bool) (w : wide ≡ hasBit0 flags) (guest vcpu : ℕ) (b : List ℕ) (a : Target) (q : a ≡ targetOf l s (supportedBits wide) flags wide guest vcpu) (r : Answer) where
   abbrev tests : List (Bool × Fault)
   tests = targetTests l s (supportedBits wide) flags wide guest vcpu
-
-  at : a ≡ targetOf l s (supportedBits wide) flags wide guest vcpu
-  at = q ∙ ap (λ (y : ℕ). targetOf l s y flags wide guest vcpu) m
 
   set-as : decide s [] (tests ++ bufferTests (contextOf l s guest (setUse wide)) b) (accept 0 (applied (baseOf l s wide guest vcpu) b (countOf b) s)) ≡ setElements l s flags guest vcpu b
   unfolding setElements
@@ -177,14 +178,14 @@ module _ (l : Layout) (s : List ℕ) (flags : ℕ) (wide : Bool) (w : wide ≡ h
   unfolding decide
   set-turned f h i =
       ap (λ (x : Answer). record { answer = x; store = s; buffer = [] }) i
-      ∙ sym (begin-refused (refuse s []) (accept 0 (applied (baseOf l s wide guest vcpu) b (countOf b) s)) tests (bufferTests (contextOf l s guest (setUse wide)) b) f (target-judged l s (supportedBits wide) flags wide guest vcpu a at f h))
+      ∙ sym (begin-refused (refuse s []) (accept 0 (applied (baseOf l s wide guest vcpu) b (countOf b) s)) tests (bufferTests (contextOf l s guest (setUse wide)) b) f (target-judged l s (supportedBits wide) flags wide guest vcpu a q f h))
       ∙ set-as
 
   pub set-found : (base : ℕ) (u : List ℕ) (usage : Usage) (k : Context) → a ≡ At base → usage ≡ setUse wide → k ≡ contextOf l s guest usage → _≡_ {A = Outcome} (record { answer = r; store = u; buffer = [] }) (setAt s base k b)
       → _≡_ {A = Outcome} (record { answer = r; store = u; buffer = [] }) (setElements l s flags guest vcpu b)
   unfolding setAt decide
   set-found base u usage k h v z i =
-      let p = target-found l s (supportedBits wide) flags wide guest vcpu a at base h in
+      let p = target-found l s (supportedBits wide) flags wide guest vcpu a q base h in
       i ∙ ap₂ (λ (x : ℕ) (y : Context). firstOf (refuse s []) (bufferTests y b) (accept 0 (applied x b (countOf b) s))) (sym (p .1)) (z ∙ ap (contextOf l s guest) v)
       ∙ sym (begin-admitted (refuse s []) (accept 0 (applied (baseOf l s wide guest vcpu) b (countOf b) s)) tests (bufferTests (contextOf l s guest (setUse wide)) b) (p .0)) ∙ set-as
 
@@ -192,12 +193,12 @@ module _ (l : Layout) (s : List ℕ) (flags : ℕ) (wide : Bool) (w : wide ≡ h
   unfolding decide
   get-turned f h i =
       ap (λ (x : Answer). record { answer = x; store = s; buffer = b }) i
-      ∙ sym (begin-refused (refuse s b) (fillWith s (baseOf l s wide guest vcpu) b) tests (bufferTests (contextOf l s guest (getUse wide)) b) f (target-judged l s (supportedBits wide) flags wide guest vcpu a at f h)) ∙ get-as
+      ∙ sym (begin-refused (refuse s b) (fillWith s (baseOf l s wide guest vcpu) b) tests (bufferTests (contextOf l s guest (getUse wide)) b) f (target-judged l s (supportedBits wide) flags wide guest vcpu a q f h)) ∙ get-as
 
   pub get-past : (base : ℕ) (usage : Usage) (k : Context) → a ≡ At base → usage ≡ getUse wide → k ≡ contextOf l s guest usage → getAt s base k b ≡ getElements l s flags guest vcpu b
   unfolding getAt decide
   get-past base usage k h v z =
-      let p = target-found l s (supportedBits wide) flags wide guest vcpu a at base h in
+      let p = target-found l s (supportedBits wide) flags wide guest vcpu a q base h in
       ap₂ (λ (x : ℕ) (y : Context). firstOf (refuse s b) (bufferTests y b) (fillWith s x b)) (sym (p .1)) (z ∙ ap (contextOf l s guest) v)
       ∙ sym (begin-admitted (refuse s b) (fillWith s (baseOf l s wide guest vcpu) b) tests (bufferTests (contextOf l s guest (getUse wide)) b) (p .0)) ∙ get-as
 

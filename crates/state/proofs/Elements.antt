@@ -178,7 +178,7 @@ module _ (id : ℕ) (p : permits (by ThreadGet 0 Full) id (kindOf id) ≡ true) 
     -- the call
     module _ (l : Layout) (s : List ℕ) (guest vcpu : ℕ) (a : Target) (q : a ≡ targetOf l s (2 ^ 62) 0 false guest vcpu) (r : Answer) where
       turned : (f : Fault) → a ≡ TargetRefused f → r ≡ refusal f → _≡_ {A = Outcome} (record { answer = r; store = s; buffer = buffer }) (gotElement l s guest vcpu id v)
-      turned f h i = get-turned l s 0 false refl guest vcpu buffer a (2 ^ 62) refl q r f h i ∙ get-plain l s 0 guest vcpu buffer refl
+      turned f h i = get-turned l s 0 false refl guest vcpu buffer a q r f h i ∙ get-plain l s 0 guest vcpu buffer refl
 
       pub one-turned : (f : Fault) → a ≡ TargetRefused f → r ≡ refusal f → r ≡ gotElement l s guest vcpu id v .answer
       one-turned f h i = ap (λ (o : Outcome). o .answer) (turned f h i)
@@ -188,7 +188,7 @@ module _ (id : ℕ) (p : permits (by ThreadGet 0 Full) id (kindOf id) ≡ true) 
 
       module _ (base : ℕ) (h : a ≡ At base) (k : Context) (is : k ≡ contextOf l s guest ThreadGet) where
         got : getAt s base k buffer ≡ gotElement l s guest vcpu id v
-        got = get-past l s 0 false refl guest vcpu buffer a (2 ^ 62) refl q r base ThreadGet k h refl is ∙ get-plain l s 0 guest vcpu buffer refl
+        got = get-past l s 0 false refl guest vcpu buffer a q r base ThreadGet k h refl is ∙ get-plain l s 0 guest vcpu buffer refl
 
         pub one-got : r ≡ getAt s base k buffer .answer → r ≡ gotElement l s guest vcpu id v .answer
         one-got d = d ∙ ap (λ (o : Outcome). o .answer) got

@@ -14,8 +14,8 @@ use elements::offer_of;
 use gsb::Walked;
 use gsb::bad_length;
 use gsb::first_bad;
-use hand_over::give_vcpu;
-use hand_over::take_vcpu;
+pub use hand_over::give_vcpu;
+pub use hand_over::take_vcpu;
 use octets::get32;
 use rules::Context;
 use rules::Usage;
@@ -32,6 +32,7 @@ ghost use lib.ListN.{length};
 ghost use Rattle.rules.specs.declared.Usage.the-variants.{ThreadGet};
 ghost use Rattle.store.specs.Layout.{layoutOf};
 ghost use Rattle.admission.specs.Refusals.{Outcome, hasBit0};
+ghost use Rattle.admission.specs.Target.{targetOf, Held};
 ghost use Rattle.state.specs.State.{contextOf, supportedBits, setUse, setElements, setState, getUse, getElements, getState};
 ghost use Rattle.state.specs.Private.{bufferGood, setAt, getAt, bytesFor};
 
@@ -85,6 +86,21 @@ fn supported_bits(wide: bool) -> u64
     BIT_1
 }
 
+// Where the elements' values are, with one argument less than `target_of`: none goes over the stack, which the entries have 512 bytes of.
+fn element_target(store: &[u8], flags: u64, wide: bool, guest: u64, vcpu: u64) -> Target
+    ensures { λ r. ⌜ r ≡ targetOf (layoutOf (now (store .entry))) (now (store .entry)) (supportedBits wide) flags wide guest vcpu ⌝ }
+    ensures { λ r. ⌜ Held r wide (layoutOf (now (store .entry))) (length (now (store .entry))) ⌝ }
+{
+    target_of(
+        store,
+        supported_bits(wide),
+        flags,
+        wide,
+        guest as usize,
+        vcpu as usize,
+    )
+}
+
 fn set_use(wide: bool) -> Usage
     ensures { λ r. ⌜ r ≡ setUse wide ⌝ }
 {
@@ -106,12 +122,11 @@ fn set_at(store: &mut [u8], base: usize, k: Context, buffer: &[u8]) -> Answer
     success(0)
 }
 
-fn set_elements(store: &mut [u8], flags: u64, guest: u64, vcpu: u64, buffer: &[u8]) -> Answer
+pub fn set_elements(store: &mut [u8], flags: u64, guest: u64, vcpu: u64, buffer: &[u8]) -> Answer
     ensures { λ r. ⌜ _≡_ {A = Outcome} (record { answer = r; store = now (store .exit); buffer = [] }) (setElements (layoutOf (now (store .entry))) (now (store .entry)) flags guest vcpu (now (buffer .entry))) ⌝ }
 {
     let wide = is_wide(flags);
-    let bits = supported_bits(wide);
-    let target = target_of(store, bits, flags, wide, guest as usize, vcpu as usize);
+    let target = element_target(store, flags, wide, guest, vcpu);
     match target {
         Target::Refused(fault) => refusal(fault),
         Target::At(base) => {
@@ -152,12 +167,11 @@ fn get_at(store: &[u8], base: usize, k: Context, buffer: &mut [u8]) -> Answer
     success(0)
 }
 
-fn get_elements(store: &[u8], flags: u64, guest: u64, vcpu: u64, buffer: &mut [u8]) -> Answer
+pub fn get_elements(store: &[u8], flags: u64, guest: u64, vcpu: u64, buffer: &mut [u8]) -> Answer
     ensures { λ r. ⌜ _≡_ {A = Outcome} (record { answer = r; store = now (store .entry); buffer = now (buffer .exit) }) (getElements (layoutOf (now (store .entry))) (now (store .entry)) flags guest vcpu (now (buffer .entry))) ⌝ }
 {
     let wide = is_wide(flags);
-    let bits = supported_bits(wide);
-    let target = target_of(store, bits, flags, wide, guest as usize, vcpu as usize);
+    let target = element_target(store, flags, wide, guest, vcpu);
     match target {
         Target::Refused(fault) => refusal(fault),
         Target::At(base) => {

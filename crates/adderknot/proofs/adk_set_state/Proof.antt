@@ -1,21 +1,28 @@
--- What the call left, as its three numbers.
-use Rattle.adderknot.proofs.Told.{told-all}
+-- By the flag.
+use Rattle.adderknot.proofs.ByFlag.{set-by-giving, set-by-elements}
 use borrow.Author.Needs.{needs}
 use Rattle.adderknot.proofs.adk_set_state.Statement.{statement}
 use Rattle.adderknot.proofs.adk_set_state.Tie as tie
 
-set-state-requires : tie.Need-set-state-requires
-set-state-requires c κs = search needs
-
-registers-of-requires : tie.Need-registers-of-requires
-registers-of-requires c κs = search needs
+give-vcpu-requires : tie.Need-give-vcpu-requires
+give-vcpu-requires c κs = search needs
 
 same-length : tie.Need-same-length
 same-length c = search needs
 
 returns : tie.Need-returns
-returns c = told-all _ _ _ _ _ (c .before .before .before .set-state .ensures) (c .registers-of .ensures)
+returns c = search (needs, set-by-giving)
+
+set-elements-requires : tie.Need-set-elements-requires
+set-elements-requires c κs = search needs
+
+same-length-2 : tie.Need-same-length-2
+same-length-2 c = search needs
+
+returns-2 : tie.Need-returns-2
+returns-2 c = search (needs, set-by-elements)
 
 pub adk-set-state-spec : {M : Type 1} → statement M
 adk-set-state-spec =
-    tie.close (tie.spec set-state-requires registers-of-requires same-length returns)
+    tie.close
+    (tie.spec give-vcpu-requires same-length returns set-elements-requires same-length-2 returns-2)
