@@ -8,7 +8,7 @@ use Rattle.answer.specs.declared.Place.{Place}
 use Rattle.answer.specs.declared.RunBuffer.{RunBuffer}
 use Rattle.answer.specs.declared.RunBuffer.the-variants.{Input, Output}
 use Rattle.answer.specs.declared.Fault.{Fault}
-use Rattle.answer.specs.declared.Fault.the-variants.{None, Store, Flag, Guest, Token, Capability, Vcpu, Length, Element, Room, Exists, Unregistered, Short, Exit, Effect, Cache, Taken, Form, Record, InUse}
+use Rattle.answer.specs.declared.Fault.the-variants.{None, Store, Flag, Guest, Token, Capability, Vcpu, Length, Element, Room, Exists, Unregistered, Short, Exit, Effect, Cache, Taken, Form, Records, Record, InUse}
 use Rattle.answer.specs.declared.Call.{Call}
 use Rattle.answer.specs.declared.Call.the-variants.{FreshStore, GetCapabilities, SetCapabilities, CreateGuest, CreateVcpu, GetState, SetState, RunVcpu, DeleteGuest, GuestClock, Convert, Lookup, Join, WriteRecord, CacheWrite, CacheRead, CacheRun}
 use Rattle.answer.specs.declared.Shown.{Shown}
@@ -65,8 +65,8 @@ abbrev pub withPlace : ℕ → Shown → Registers
 withPlace n p = three n (p .r4) (p .r5)
 
 -- The table, row for row; v is what a success tells. "R4 and R5 are 0 where nothing is said." Behind 15 stand the rows of 02: L1's "16 in get,
--- set and run", "17 after 5", L9's "19 with the byte offset of the first record that is cut or has another kind or nonzero padding", and L12's
--- "21 after 3".
+-- set and run", "17 after 5", L5's "18 when other than sixteen records are lent", L9's "19 with the byte offset of the first record that is cut or
+-- has another kind or nonzero padding", and L12's "21 after 3".
 abbrev pub told : Call → Fault → ℕ → Registers
 told c None v = three 0 v 0
 told c Store v = three 1 0 0
@@ -86,6 +86,7 @@ told c (Effect place) v = withPlace 14 (placeShown c place)
 told c Cache v = three 15 0 0
 told c Taken v = three 16 0 0
 told c Form v = three 17 0 0
+told c Records v = three 18 0 0
 told c (Record offset) v = three 19 offset 0
 told c InUse v = three 21 0 0
 

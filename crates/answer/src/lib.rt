@@ -42,6 +42,7 @@ pub enum Fault {
     Cache,
     Taken,
     Form,
+    Records,
     Record(u64),
     InUse,
 }
@@ -193,6 +194,7 @@ pub fn registers_of(c: Call, a: Answer) -> Registers
         Fault::Cache => three(15, 0, 0),
         Fault::Taken => three(16, 0, 0),
         Fault::Form => three(17, 0, 0),
+        Fault::Records => three(18, 0, 0),
         Fault::Record(offset) => three(19, offset, 0),
         Fault::InUse => three(21, 0, 0),
     }

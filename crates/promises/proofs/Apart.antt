@@ -156,7 +156,7 @@ module _ (base q : ℕ) (w : List ℕ) (c : Clear base slotBytes q (length w)) w
 
 -- ---- the slot of a vCPU
 -- no other slot has the word, since the store is well formed
-placed-slot : (l : Layout) → Sound l → (t : List ℕ) → wellFormed l t ≡ true → (g v j : ℕ) → j < l .slots → Placed l (header l t) g v j → slotOf l (header l t) g v ≡ j
+pub placed-slot : (l : Layout) → Sound l → (t : List ℕ) → wellFormed l t ≡ true → (g v j : ℕ) → j < l .slots → Placed l (header l t) g v j → slotOf l (header l t) g v ≡ j
 unfolding slotOf slotHolding holds
 placed-slot l so t good g v j k p =
     let f = words-are l (header l t) (formed l t good .words) in

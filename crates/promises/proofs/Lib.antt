@@ -19,3 +19,7 @@ pub mod JoinEdges
 pub mod ByNumber
 pub mod Replay
 pub mod Night
+pub mod Sums
+pub mod Tallies
+pub mod RecordsKept
+pub mod OneNight

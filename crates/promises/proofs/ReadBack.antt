@@ -52,7 +52,7 @@ no-taken e = let z : _≡_ {A = ℕ} 0 1 = cc in omega arith
 pub no-length : Length ≡ None → ⊥
 no-length e = let z : _≡_ {A = ℕ} 0 1 = cc in omega arith
 
-stopped-real : (w : Walked) → isStopped w ≡ true → faultOf w ≡ None → ⊥
+pub stopped-real : (w : Walked) → isStopped w ≡ true → faultOf w ≡ None → ⊥
 stopped-real Done e q = let z : _≡_ {A = ℕ} 0 1 = cc in omega arith
 stopped-real (Stopped bad place) e q = let z : _≡_ {A = ℕ} 0 1 = cc in omega arith
 

@@ -13,7 +13,7 @@ use Rattle.answer.specs.declared.Bad.the-variants.{Id, Size, Value}
 use Rattle.answer.specs.declared.Place.{Place}
 use Rattle.answer.specs.declared.Call.{Call as Name}
 use Rattle.answer.specs.declared.Fault.{Fault}
-use Rattle.answer.specs.declared.Fault.the-variants.{None, Store, Flag, Guest, Token, Capability, Vcpu, Length, Element, Room, Exists, Unregistered, Short, Exit, Effect, Cache, Taken, Form, Record, InUse}
+use Rattle.answer.specs.declared.Fault.the-variants.{None, Store, Flag, Guest, Token, Capability, Vcpu, Length, Element, Room, Exists, Unregistered, Short, Exit, Effect, Cache, Taken, Form, Records, Record, InUse}
 use Rattle.answer.specs.declared.Registers.{Registers}
 use Rattle.answer.specs.Answer.{badNumber, three, told}
 use Rattle.answer.specs.declared.Answer.{Answer}
@@ -76,6 +76,7 @@ success-told c (Effect place) v e = absurd (omega arith)
 success-told c Cache v e = absurd (omega arith)
 success-told c Taken v e = absurd (omega arith)
 success-told c Form v e = absurd (omega arith)
+success-told c Records v e = absurd (omega arith)
 success-told c (Record offset) v e = absurd (omega arith)
 success-told c InUse v e = absurd (omega arith)
 

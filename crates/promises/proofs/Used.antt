@@ -42,8 +42,8 @@ use Rattle.promises.proofs.HandedOver.{take-slotted, give-slotted, take
 use Rattle.promises.proofs.Lowest.{VcpuMade, vcpu-made, new-word, made-header, free-slot, freed-slot, kept-slot}
 
 -- ---- a call that leaves the words of the store s as they were
-record Same (l : Layout) (s : List ℕ) (o : Outcome) : Type 0 where
-  words : (a : ℕ) → a < l .slots → word l (header l (o .store)) a ≡ word l (header l s) a
+pub record Same (l : Layout) (s : List ℕ) (o : Outcome) : Type 0 where
+  pub words : (a : ℕ) → a < l .slots → word l (header l (o .store)) a ≡ word l (header l s) a
 
 -- ---- the words of a store are those of the vCPUs counted: as many of every kind of guest
 abbrev named : Layout → List ℕ → (ℕ → Bool) → ℕ → Bool
@@ -86,7 +86,7 @@ module _ (l : Layout) (so : Sound l) (s : List ℕ) (good : wellFormed l s ≡ t
   kept b f = record { words = λ a la. refl }
 
   -- ---- the calls that leave the words
-  caps-same : (flags bitmap : ℕ) → Same l s (setCapabilities l s flags bitmap)
+  pub caps-same : (flags bitmap : ℕ) → Same l s (setCapabilities l s flags bitmap)
   unfolding setCapabilities
   caps-same flags bitmap =
       decided (Same l s) s [] _ _ (kept [])
@@ -98,7 +98,7 @@ module _ (l : Layout) (so : Sound l) (s : List ℕ) (good : wellFormed l s ≡ t
       ap (λ (h : List ℕ). word l h a) (header-values l so (putLive s g 1) (guestAt l g) (zeros guestBytes) (omega arith) ∙ header-live l so s g 1 hi)
       ∙ word-live l so (header l s) full g lo hi 1 a
 
-  guest-same : (flags token : ℕ) → Same l s (createGuest l s flags token)
+  pub guest-same : (flags token : ℕ) → Same l s (createGuest l s flags token)
   unfolding createGuest freeGuest
   guest-same flags token =
       decided (Same l s) s [] _ _ (kept [])
@@ -123,10 +123,10 @@ module _ (l : Layout) (so : Sound l) (s : List ℕ) (good : wellFormed l s ≡ t
       decided (Same l s) s [] _ _ (kept [])
       (λ p. let f = give-slotted l s guest vcpu b p in record { words = λ a la. handed-word l so s _ (f .below) (valuesOf b) 0 (formed l s good .long) a la })
 
-  set-same : (flags guest vcpu : ℕ) (b : List ℕ) → Same l s (setState l s flags guest vcpu b)
+  pub set-same : (flags guest vcpu : ℕ) (b : List ℕ) → Same l s (setState l s flags guest vcpu b)
   set-same flags guest vcpu b = set-ways l s flags guest vcpu b (Same l s) (λ e. elements-same flags guest vcpu b) (λ t. give-same guest vcpu b)
 
-  run-same : (flags guest vcpu : ℕ) (input output effect : List ℕ) (exit : ℕ) → Same l s (runVcpu l s flags guest vcpu input output effect exit)
+  pub run-same : (flags guest vcpu : ℕ) (input output effect : List ℕ) (exit : ℕ) → Same l s (runVcpu l s flags guest vcpu input output effect exit)
   unfolding runVcpu ran ranStore
   run-same flags guest vcpu input output effect exit =
       let base = baseOf l s false guest vcpu in
@@ -139,14 +139,14 @@ module _ (l : Layout) (so : Sound l) (s : List ℕ) (good : wellFormed l s ≡ t
   unfolding getElements
   got-same flags guest vcpu b = decided (Same l s) s b _ _ (kept b) (λ p. record { words = λ a la. refl })
 
-  get-same : (flags guest vcpu : ℕ) (b : List ℕ) → Same l s (getState l s flags guest vcpu b)
+  pub get-same : (flags guest vcpu : ℕ) (b : List ℕ) → Same l s (getState l s flags guest vcpu b)
   get-same flags guest vcpu b = get-ways l s flags guest vcpu b (Same l s) (λ e. got-same flags guest vcpu b) (λ t. take-same guest vcpu b)
 
-  told-same : (flags : ℕ) → Same l s (getCapabilities l s flags)
+  pub told-same : (flags : ℕ) → Same l s (getCapabilities l s flags)
   unfolding getCapabilities
   told-same flags = decided (Same l s) s [] _ _ (kept []) (λ p. record { words = λ a la. refl })
 
-  clock-same : (guest timebase : ℕ) → Same l s (guestClock l s guest timebase)
+  pub clock-same : (guest timebase : ℕ) → Same l s (guestClock l s guest timebase)
   unfolding guestClock
   clock-same guest timebase = decided (Same l s) s [] _ _ (kept []) (λ p. record { words = λ a la. refl })
 

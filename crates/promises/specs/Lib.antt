@@ -9,3 +9,4 @@ pub mod Both
 pub mod Joining
 pub mod ByNumber
 pub mod Replay
+pub mod Tallies

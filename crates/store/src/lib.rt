@@ -16,6 +16,7 @@ pub use formed::well_formed;
 pub use header::capabilities_of;
 pub use header::is_live;
 pub use header::is_taken;
+pub use header::slot_word;
 pub use removal::without_guest;
 pub use removal::without_guests;
 pub use slots::any_live;

@@ -199,6 +199,15 @@ three-requires-17 c κs = search needs
 returns-19 : tie.Need-returns-19
 returns-19 c = search (needs, row)
 
+enum-told-15 : tie.Need-enum-told-15
+enum-told-15 c = search needs
+
+three-requires-19 : tie.Need-three-requires-19
+three-requires-19 c κs = search needs
+
+returns-21 : tie.Need-returns-21
+returns-21 c = search (needs, row)
+
 pub registers-of-spec : {M : Type 1} → statement M
 registers-of-spec =
     tie.close
@@ -244,10 +253,12 @@ registers-of-spec =
     three-requires-15
     enum-told-13
     three-requires-16
-    enum-known-fault-6
-    three-requires-17
     enum-told-14
+    three-requires-17
+    enum-known-fault-6
     three-requires-18
+    enum-told-15
+    three-requires-19
     returns
     returns-2
     returns-3
@@ -267,4 +278,5 @@ registers-of-spec =
     returns-17
     returns-18
     returns-19
-    returns-20)
+    returns-20
+    returns-21)
