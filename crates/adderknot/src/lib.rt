@@ -1,5 +1,7 @@
 // The entries that the C bench calls: each call's answer as the three numbers of the paper, nothing else.
 // include/adderknot.h declares them.
+#![tactic(auto)]
+
 ghost use Rattle.std.specs.Prelude.{◌≡◌};
 ghost use Rattle.answer.specs.declared.Call.{Call};
 ghost use Rattle.answer.specs.Answer.{told};
@@ -247,7 +249,7 @@ pub extern "C" fn adk_tally(
 
 // Where the value part lies in the caller's buffer: an exported function can't return a reference.
 #[repr(C)]
-#[derive(Drop)]
+#[derive(Clone, Copy)]
 pub struct Found {
     pub r3: u64,
     pub r4: u64,

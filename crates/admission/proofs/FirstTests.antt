@@ -81,7 +81,7 @@ module _ (l : Layout) (s : List ℕ) (supported flags : ℕ) where
       go false q i j k = absurd (no_admission k)
 
   pub admitted : {A : Type 0} (refuse : Fault → A) (rest : A) → Past → tests refuse rest ≡ rest
-  admitted refuse rest p = simp (p.good, p.flags-good)
+  admitted refuse rest p = simp (p.good, p.flags_good)
 
 pub leading_fits : (x : ℕ) → count_leading_zeros 64 x < 2 ^ 64
 leading_fits x = omega (arith, leading_le 64 x)

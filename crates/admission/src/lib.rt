@@ -1,5 +1,7 @@
 // The tests that the calls begin with, before a buffer is looked at: the store, the flags, the guest and the vCPU.
 // Apart from the calls, since all of them share it.
+#![tactic(auto)]
+
 ghost use Rattle.std.specs.Prelude.{◌≡◌, ◌<◌, length};
 ghost use Rattle.store.specs.Layout.{layout_of};
 ghost use Rattle.store.specs.Header.{outside};
@@ -11,21 +13,21 @@ use answer::Fault;
 use store::{Layout, guest_at, is_live, is_taken, layout_of, slot_at, slot_of, well_formed};
 
 // Past the first tests of a call, or refused by one.
-#[derive(Drop)]
+#[derive(Clone, Copy)]
 pub enum Admission {
     Admitted,
     Refused(Fault),
 }
 
 // What a call works on: where the values of a guest or of a vCPU start; or a refusal by the tests before.
-#[derive(Drop)]
+#[derive(Clone, Copy)]
 pub enum Target {
     Refused(Fault),
     At(usize),
 }
 
 // The slot of a vCPU; or a refusal by the tests before.
-#[derive(Drop)]
+#[derive(Clone, Copy)]
 pub enum Slot {
     Refused(Fault),
     At(usize),

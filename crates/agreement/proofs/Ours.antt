@@ -74,7 +74,7 @@ module _ (l : Layout) (so : Sound l) (g v j : ℕ) (below_slots : j < l.slots) (
   -- ---- a value written into the slot
   module _ (s : List ℕ) (w : ℕ × List ℕ) (h : is_input (offer_of pvr) w.0 ≡ true) (z : length w.1 ≡ (element_of w.0).size) where
     place_behind : l.guests_at ≤ base + (element_of w.0).position
-    place_behind = omega (arith, so.guests-fit)
+    place_behind = omega (arith, so.guests_fit)
 
     pub placed_header : header l (placed base w s) ≡ header l s
     placed_header = header_values l so s (base + (element_of w.0).position) w.1 place_behind
@@ -84,7 +84,7 @@ module _ (l : Layout) (so : Sound l) (g v j : ℕ) (below_slots : j < l.slots) (
     placed_pvr lv =
         let b = live_parts l (header l s) g lv in
         let p = pvr_place in
-        be_other s (base + (element_of w.0).position) w.1 (guest_at l g + position Guest 0x0003) 4 (right (omega (arith, p, so.guests-fit, b.0, b.1)))
+        be_other s (base + (element_of w.0).position) w.1 (guest_at l g + position Guest 0x0003) 4 (right (omega (arith, p, so.guests_fit, b.0, b.1)))
 
     pub placed_ours : Ours s → Ours (placed base w s)
     placed_ours o = record { told = placed_pvr (ours_live s o) ∙ o.told; good = formed_values l so s (base + (element_of w.0).position) w.1 place_behind ∙ o.good; slot = ap (λ (x : List ℕ). slot_of l x g v) placed_header ∙ o.slot; here = ap (λ (x : List ℕ). is_taken l x j) placed_header ∙ o.here }
@@ -110,18 +110,18 @@ module _ (l : Layout) (so : Sound l) (g v j : ℕ) (below_slots : j < l.slots) (
   like_back : (s : List ℕ) (ws : List (ℕ × List ℕ)) → Fit (offer_of pvr) ws → Like s (back base s ws)
   like_back s ws f =
       back_keeps (offer_of pvr) base (Like s)
-      (λ t w h z k. record { header_like = placed_header t w h z ∙ k.header-like; input_like = placed_input t w h z ∙ k.input-like; output_like = placed_output t w h z ∙ k.output-like })
+      (λ t w h z k. record { header_like = placed_header t w h z ∙ k.header_like; input_like = placed_input t w h z ∙ k.input_like; output_like = placed_output t w h z ∙ k.output_like })
       s ws f (record { header_like = refl; input_like = refl; output_like = refl })
 
   module _ (s : List ℕ) (ws : List (ℕ × List ℕ)) (f : Fit (offer_of pvr) ws) where
     pub back_header : header l (back base s ws) ≡ header l s
-    back_header = (like_back s ws f).header-like
+    back_header = (like_back s ws f).header_like
 
     pub back_input : input_size (back base s ws) base ≡ input_size s base
-    back_input = (like_back s ws f).input-like
+    back_input = (like_back s ws f).input_like
 
     pub back_output : output_size (back base s ws) base ≡ output_size s base
-    back_output = (like_back s ws f).output-like
+    back_output = (like_back s ws f).output_like
 
   -- ---- two stores with the same bytes in the slot
   module _ (s t : List ℕ) (e : bytes_at t base slot_bytes ≡ bytes_at s base slot_bytes) where

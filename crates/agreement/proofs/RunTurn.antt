@@ -362,13 +362,13 @@ module _ (l : Layout) (so : Sound l) (g v j : ℕ) (below_slots : j < l.slots) (
       then = applied place effect (count_of effect) p
 
       behind : l.guests_at ≤ place
-      behind = omega (arith, so.guests-fit)
+      behind = omega (arith, so.guests_fit)
 
       -- the guest's own values lie before every slot
       then_guest : bytes_at then (guest_at l g) guest_bytes ≡ bytes_at p (guest_at l g) guest_bytes
       then_guest =
           let r = live_parts l (header l p) g (ours_live l so g v j below_slots pvr p plain_is) in
-          beside (context_of l p g InEffect) place effect walked p (guest_at l g) guest_bytes (right (omega (arith, so.guests-fit, r.0, r.1)))
+          beside (context_of l p g InEffect) place effect walked p (guest_at l g) guest_bytes (right (omega (arith, so.guests_fit, r.0, r.1)))
 
       then_ours : Ours l so g v j below_slots pvr then
       then_ours = record {

@@ -1,9 +1,11 @@
 // What a call answers: a fault, and with success a value; and 01's numbers R3, R4 and R5 for it.
+#![tactic(auto)]
+
 ghost use Rattle.std.specs.Prelude.{◌≡◌};
 ghost use Rattle.answer.specs.Answer.{bad_number, buffer_number, place_shown, with_place, told};
 
 // What is wrong with an element.
-#[derive(Drop)]
+#[derive(Clone, Copy)]
 pub enum Bad {
     Id,
     Size,
@@ -11,14 +13,14 @@ pub enum Bad {
 }
 
 // Where an element stands: its array index, and the offset of its first byte.
-#[derive(Drop)]
+#[derive(Clone, Copy)]
 pub struct Place {
     pub index: usize,
     pub offset: usize,
 }
 
 // The two buffers that are registered for runs.
-#[derive(Drop)]
+#[derive(Clone, Copy)]
 pub enum RunBuffer {
     Input,
     Output,
@@ -26,7 +28,7 @@ pub enum RunBuffer {
 
 // The rows of 01's table, in its order; 3 has a variant for each of its three causes. `Flag` holds the lowest-numbered bad bit, `Record`
 // the byte offset of a bad call record, `Missing` the smallest missing ID.
-#[derive(Drop)]
+#[derive(Clone, Copy)]
 pub enum Fault {
     None,
     Store,
@@ -53,14 +55,14 @@ pub enum Fault {
 }
 
 // `value` is what a success tells; it is 0 where nothing is said, and in a refusal.
-#[derive(Drop)]
+#[derive(Clone, Copy)]
 pub struct Answer {
     pub fault: Fault,
     pub value: u64,
 }
 
 // Which entry point answers.
-#[derive(Drop)]
+#[derive(Clone, Copy)]
 pub enum Call {
     FreshStore,
     GetCapabilities,
@@ -83,14 +85,14 @@ pub enum Call {
 }
 
 // What R4 and R5 show of a place.
-#[derive(Drop)]
+#[derive(Clone, Copy)]
 pub struct Shown {
     pub r4: u64,
     pub r5: u64,
 }
 
 #[repr(C)]
-#[derive(Drop)]
+#[derive(Clone, Copy)]
 pub struct Registers {
     pub r3: u64,
     pub r4: u64,

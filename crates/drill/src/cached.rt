@@ -6,7 +6,7 @@ use super::start::start;
 use answer::{Call, registers_of};
 
 // The digests so far: of all that the L1 saw, and of the run inputs.
-#[derive(Drop)]
+#[derive(Clone, Copy)]
 pub struct Seen {
     pub all: u64,
     pub inputs: u64,

@@ -10,7 +10,7 @@ pub const OPERATIONS: u64 = 600;
 pub const SEED: u64 = 20261115;
 
 // On guest 1, but for Other, a call on guest 2.
-#[derive(Drop)]
+#[derive(Clone, Copy)]
 pub enum Operation {
     Write,
     Read,
@@ -100,7 +100,7 @@ fn fill(b: &mut [u8], x: u64) {
 }
 
 // A buffer of one element, good or bad: count 1, the ID, a size, and the value from 8 to the end. What follows is not lent.
-#[derive(Drop)]
+#[derive(Clone, Copy)]
 pub struct Element {
     pub id: u16,
     pub bytes: [u8; 24],

@@ -1,6 +1,8 @@
 // A drill of the L1 cache: some hundred operations on an L1 with the cache, and the same ones on a plain L1, of a guest that is a POWER10
 // and again of one that is a POWER9. It prints how many, and for each guest its PVR, a digest of all that each L1 saw, and one of the
 // inputs that the cache wrote. The first two digests are equal.
+#![tactic(auto)]
+
 mod cached;
 mod digest;
 mod draw;

@@ -110,7 +110,7 @@ module _ (id n : ℕ) (e : n ≡ number_of id) where
 
   pub cell_past : 170 ≤ n → id < 2 ^ 16 → record { number = n; size = 0; position = 0 } ≡ cell_of id
   cell_past h l =
-      let q : n ≡ 170 = omega (arith, number_mono id past (omega arith), table_right.thread-elements) in
+      let q : n ≡ 170 = omega (arith, number_mono id past (omega arith), table_right.thread_elements) in
       cell_table (record { id = 0; size = 0; position = 0 }) (sym (ap thread_element q ∙ none_there))
 
 -- ---- a register's cell that is there

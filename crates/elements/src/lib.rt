@@ -1,6 +1,8 @@
 // The elements of a guest state buffer: the one constant table, and the types in which it is told what an ID is.
 // `kinds` and `numbers` scan it, `registers` has the short way for nearly all IDs, `lists` has what POWER9 lacks of it; the crate `rules`
 // says what a call may do with an element.
+#![tactic(auto)]
+
 mod cells;
 mod kinds;
 mod lists;
@@ -14,21 +16,21 @@ pub use lists::{is_later, is_offered, offer_of};
 pub use numbers::{number_of, thread_element};
 pub use registers::{is_register, register_of};
 
-#[derive(Drop)]
+#[derive(Clone, Copy)]
 pub enum Access {
     Read,
     Write,
     ReadWrite,
 }
 
-#[derive(Drop)]
+#[derive(Clone, Copy)]
 pub enum Scope {
     Guest,
     Thread,
 }
 
 // A row of the table: the IDs from first to last have values of size bytes each.
-#[derive(Drop)]
+#[derive(Clone, Copy)]
 pub struct Row {
     pub first: u16,
     pub last: u16,
@@ -38,13 +40,13 @@ pub struct Row {
 }
 
 // Where a listed element's value comes from: a number that never changes, or its place in a guest's or a slot's values.
-#[derive(Drop)]
+#[derive(Clone, Copy)]
 pub enum Source {
     Fixed(u64),
     Stored(usize),
 }
 
-#[derive(Drop)]
+#[derive(Clone, Copy)]
 pub struct Entry {
     pub size: usize,
     pub access: Access,
@@ -53,7 +55,7 @@ pub struct Entry {
 }
 
 // What an ID is.
-#[derive(Drop)]
+#[derive(Clone, Copy)]
 pub enum Kind {
     Unlisted,
     Nop,
@@ -61,14 +63,14 @@ pub enum Kind {
 }
 
 // The list that a guest is offered: all of the table, or what POWER9 has of it.
-#[derive(Drop)]
+#[derive(Clone, Copy)]
 pub enum Offer {
     Full,
     Power9,
 }
 
 // A thread element by its number: its ID, its size and where its value lies in a slot's values.
-#[derive(Drop)]
+#[derive(Clone, Copy)]
 pub struct Element {
     pub id: u16,
     pub size: usize,
@@ -76,14 +78,14 @@ pub struct Element {
 }
 
 // A register: its size, 0 where an ID is none, and where its value lies in a slot's values.
-#[derive(Drop)]
+#[derive(Clone, Copy)]
 pub struct Register {
     pub size: usize,
     pub position: usize,
 }
 
 // A thread element by its ID: its number, its size, 0 where there is none, and where its value lies in a slot's values.
-#[derive(Drop)]
+#[derive(Clone, Copy)]
 pub struct Cell {
     pub number: usize,
     pub size: usize,

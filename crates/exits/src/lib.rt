@@ -1,4 +1,6 @@
 // The exits of a run: the one constant table of which elements each returns, and the output that they make.
+#![tactic(auto)]
+
 ghost use Rattle.std.specs.Prelude.{◌≡◌, true, ◌+◌, ◌≤◌, ◌<◌, ◌^◌, length};
 ghost use Rattle.octets.specs.Bytes.{bytes_at, put};
 ghost use Rattle.elements.specs.Table.{number_of};

@@ -9,7 +9,7 @@ use answer::{Answer, Bad, Fault, Place, RunBuffer, refusal, success};
 use octets::{copy, get32, put32};
 
 // Where the counted elements end, or the first that is cut.
-#[derive(Drop)]
+#[derive(Clone, Copy)]
 pub enum Extent {
     Ends(usize),
     Cut(Place),

@@ -1,5 +1,7 @@
 // The guest state buffer: one element judged, and one written. `walk` judges all that are counted; what the three mean is
 // defined here.
+#![tactic(auto)]
+
 mod framing;
 mod joining;
 mod judging;
@@ -15,14 +17,14 @@ pub use walk::first_bad;
 pub use write::put_element;
 
 // An element: good, with the offset of the next, or what is wrong with it.
-#[derive(Drop)]
+#[derive(Clone, Copy)]
 pub enum Verdict {
     Good(usize),
     Faulty(Bad),
 }
 
 // All counted elements: good, or the first that is not.
-#[derive(Drop)]
+#[derive(Clone, Copy)]
 pub enum Walked {
     Done,
     Stopped(Bad, Place),

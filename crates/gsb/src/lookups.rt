@@ -9,14 +9,14 @@ use answer::{Answer, Bad, Fault, Place, refusal, success};
 use octets::{get16, get32};
 
 // The last element so far that has an ID, by its offset.
-#[derive(Drop)]
+#[derive(Clone, Copy)]
 pub enum Last {
     Nowhere,
     At(usize),
 }
 
 // A lookup's answer, and where the value part lies in the caller's buffer.
-#[derive(Drop)]
+#[derive(Clone, Copy)]
 pub struct Found {
     pub answer: Answer,
     pub at: usize,

@@ -1,4 +1,6 @@
 // Guests created and deleted. `vcpus` creates vCPUs; what the three mean is defined here.
+#![tactic(auto)]
+
 mod vcpus;
 
 ghost use Rattle.std.specs.Prelude.{◌≡◌, []};

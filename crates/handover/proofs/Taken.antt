@@ -179,5 +179,5 @@ all_taken vcpu base s s₁ b b₁ b₂ h w p z =
     let m = presence (present v) 0 170 in
     let j : 0 + length (head vcpu m) ≡ 24 = omega (arith, length_head vcpu m) in
     ap₂ (λ (x y : List ℕ). record { store = x; buffer = y }) z
-    (p ∙ ap₂ (λ (x y : List ℕ). put x 0 y) w.buffer w.head-is ∙ put_comm b 24 (body v 0 170) 0 (head vcpu m) (right (omega (arith, length_head vcpu m)))
+    (p ∙ ap₂ (λ (x y : List ℕ). put x 0 y) w.buffer w.head_is ∙ put_comm b 24 (body v 0 170) 0 (head vcpu m) (right (omega (arith, length_head vcpu m)))
     ∙ sym (put_append b 0 (head vcpu m) (body v 0 170) ∙ ap (λ (k : ℕ). put (put b 0 (head vcpu m)) k (body v 0 170)) j))

@@ -83,14 +83,14 @@ pub form_bits : (vcpu : ℕ) (v : List ℕ) → vcpu < 2048
 form_bits vcpu v h =
     let f = formed vcpu v (form vcpu v) [] h (sym (append-nil (form vcpu v))) in
     let g = f.fields in
-    (g.version, g.named, g.clear, λ e l. f.bit-each e (omega arith) l, g.padded)
+    (g.version, g.named, g.clear, λ e l. f.bit_each e (omega arith) l, g.padded)
 
 -- ---- a buffer that begins with the form of a state is accepted, and gives the state
 pub given_form : (vcpu : ℕ) (v b rest : List ℕ) → vcpu < 2048 → length v ≡ state_bytes → b ≡ form vcpu v ++ rest → (begins vcpu b ≡ true) × (values_of b ≡ v)
 unfolding begins
 given_form vcpu v b rest h l s =
     let f = formed vcpu v b rest h s in
-    let w = form_walk b v rest count 0 24 f.bit-each (omega arith) (omega (arith, place_all_lem, l)) f.long f.behind-head in
+    let w = form_walk b v rest count 0 24 f.bit_each (omega arith) (omega (arith, place_all_lem, l)) f.long f.behind_head in
     (simp (le-leb 24 (length b) f.long, fields_open b vcpu (presence (present v) 0 count) f.fields, w.0), w.1 ∙ all_whole v l)
 
 -- ---- a buffer that is accepted begins with the form of the state that it gives

@@ -5,7 +5,7 @@ ghost use Rattle.handover.specs.Private.{place, IsPart};
 
 // The elements from one to before another, their size, and where the first value lies in a state. Handed on number by number: the compiler
 // sees no constant through a struct. Read into a local first: the check makes a struct of each mention of a constant.
-#[derive(Drop)]
+#[derive(Clone, Copy)]
 pub struct Part {
     pub from: usize,
     pub to: usize,

@@ -1,5 +1,7 @@
 // A vendor's output buffer judged against the elements of an exit, whose values are those of our store. `marks` has which of them were
 // there, `values` compares a value; the walk and the operation are here.
+#![tactic(auto)]
+
 mod marks;
 mod values;
 
@@ -21,7 +23,7 @@ use octets::{get16, get32};
 use values::{cell_of, same_value};
 
 // Past an element: where the next starts, and the marks with its own; or the fault with its place.
-#[derive(Drop)]
+#[derive(Clone, Copy)]
 pub enum Step {
     Next(usize, u64),
     Stop(Fault),

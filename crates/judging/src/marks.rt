@@ -6,7 +6,7 @@ ghost use Rattle.judging.specs.Private.{ids_in, standing, standing_at, unmarked,
 use answer::Fault;
 
 // An ID: not of the exit, or there before; or new, with its place in the exit's row.
-#[derive(Drop)]
+#[derive(Clone, Copy)]
 pub enum Standing {
     NotNew,
     New(usize),

@@ -1,6 +1,8 @@
 // The L1 cache: a vCPU's values kept by the L1, with marks of which are valid and which changed since the last run.
 // `named` looks up the element that a write or a read names, `value` holds what both do with it, `caches` tells whether a cache is
 // well formed, `flush` is the cache's run.
+#![tactic(auto)]
+
 mod cache_read;
 mod cache_write;
 mod caches;
@@ -14,7 +16,7 @@ pub use cache_write::write;
 pub use flush::run;
 
 // A mark, 384 where there is none, and the marks behind it in its word.
-#[derive(Drop)]
+#[derive(Clone, Copy)]
 pub struct Mark {
     pub at: usize,
     pub left: u64,

@@ -1,5 +1,7 @@
 // The L1 cache's operations for the C bench, which measures them against a cache in C: each answer as the three numbers of the
 // paper, nothing else. The library has none of this: 01 gives C nothing of the cache. bench/cache.h declares them.
+#![tactic(auto)]
+
 ghost use Rattle.std.specs.Prelude.{◌≡◌};
 ghost use Rattle.answer.specs.declared.Call.{Call};
 ghost use Rattle.store.specs.Layout.{layout_of};

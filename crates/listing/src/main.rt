@@ -1,4 +1,6 @@
 // Lists the guest state buffer on standard input, judged as a thread set.
+#![tactic(auto)]
+
 use libc::{STDIN_FILENO, STDOUT_FILENO};
 use render::{ROOM, Rendered, render};
 

@@ -1,5 +1,7 @@
 // A byte widened, the bytes of a number swapped, the first bytes of a lent slice. `reading`, `writing` and `copying` stand on
 // these: everything above reads and writes lent memory through the four.
+#![tactic(auto)]
+
 mod copying;
 mod reading;
 mod writing;

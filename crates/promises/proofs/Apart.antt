@@ -286,7 +286,7 @@ module _ (l : Layout) (so : Sound l) (s : List ℕ) (good : well_formed l s ≡ 
   unfolding with_vcpu
   vcpu_made a guest vcpu h n =
       let u = word_of l guest vcpu in
-      let e : header l (with_vcpu l s a guest vcpu) ≡ put_slot l (header l s) a u = header_values l so (put_slot l s a u) (slot_at l a) (zeros slot_bytes) (omega (arith, so.guests-fit)) ∙ header_slot l so s a u h in
+      let e : header l (with_vcpu l s a guest vcpu) ≡ put_slot l (header l s) a u = header_values l so (put_slot l s a u) (slot_at l a) (zeros slot_bytes) (omega (arith, so.guests_fit)) ∙ header_slot l so s a u h in
       record {
         alive = ap (λ (x : List ℕ). live l x g) e ∙ live_slot l so (header l s) full a h u g;
         named = ap (λ (x : List ℕ). word l x j) e ∙ word_slot_else l so (header l s) full a h u j below (λ z. n (sym z));
@@ -351,7 +351,7 @@ module _ (l : Layout) (so : Sound l) (s : List ℕ) (good : well_formed l s ≡ 
     behind = go own
       where
         go : Own q (length w) → l.guests_at ≤ q
-        go (inl h) = omega (arith, h.0, so.guests-fit)
+        go (inl h) = omega (arith, h.0, so.guests_fit)
         go (inr h) = omega (arith, h.0)
 
     room : q + length w ≤ length s
@@ -359,7 +359,7 @@ module _ (l : Layout) (so : Sound l) (s : List ℕ) (good : well_formed l s ≡ 
       where
         go : Own q (length w) → q + length w ≤ length s
         go (inl h) = omega (arith, h.1, long, so.whole)
-        go (inr h) = omega (arith, h.1, long, so.whole, so.guests-fit, guest_bounds.0, guest_bounds.1)
+        go (inr h) = omega (arith, h.1, long, so.whole, so.guests_fit, guest_bounds.0, guest_bounds.1)
 
     -- the tests see the header and the length only
     formed_same : well_formed l (put s q w) ≡ well_formed l s
@@ -377,7 +377,7 @@ module _ (l : Layout) (so : Sound l) (s : List ℕ) (good : well_formed l s ≡ 
 
         by : Own q (length w) → Clear (slot_at l a) slot_bytes q (length w)
         by (inl h) = go h (slots_apart l a j n)
-        by (inr h) = right (omega (arith, h.1, so.guests-fit, guest_bounds.0, guest_bounds.1))
+        by (inr h) = right (omega (arith, h.1, so.guests_fit, guest_bounds.0, guest_bounds.1))
 
     guest_clear : (k : ℕ) → k ≢ g → 1 ≤ k → k ≤ l.guests → Clear (guest_at l k) guest_bytes q (length w)
     guest_clear k n lo hi = by own
@@ -387,7 +387,7 @@ module _ (l : Layout) (so : Sound l) (s : List ℕ) (good : well_formed l s ≡ 
         go h (right x) = right (omega (arith, h.1, x))
 
         by : Own q (length w) → Clear (guest_at l k) guest_bytes q (length w)
-        by (inl h) = left (omega (arith, h.0, so.guests-fit))
+        by (inl h) = left (omega (arith, h.0, so.guests_fit))
         by (inr h) = go h (guests_apart l k g lo guest_bounds.0 n)
 
     caps_write : (flags : ℕ) → get_capabilities l (put s q w) flags ≡ written q w (get_capabilities l s flags)
@@ -648,7 +648,7 @@ module _ (l : Layout) (so : Sound l) (s : List ℕ) (good : well_formed l s ≡ 
   apart_values = own_kept (slot_at l j) slot_bytes (inl (omega arith, omega arith)) (omega (arith, so.whole))
 
   pub apart_guest : (c : Call) → Elsewhere g c → bytes_at (outcome l s c).store (guest_at l g) guest_bytes ≡ bytes_at s (guest_at l g) guest_bytes
-  apart_guest = own_kept (guest_at l g) guest_bytes (inr (omega arith, omega arith)) (omega (arith, so.whole, so.guests-fit, guest_bounds.0, guest_bounds.1))
+  apart_guest = own_kept (guest_at l g) guest_bytes (inr (omega arith, omega arith)) (omega (arith, so.whole, so.guests_fit, guest_bounds.0, guest_bounds.1))
 
   -- so that the guest's list stays
   pub apart_pvr : (c : Call) → Elsewhere g c → pvr_of l (outcome l s c).store g ≡ pvr_of l s g

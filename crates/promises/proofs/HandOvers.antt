@@ -106,7 +106,7 @@ module _ (l : Layout) (so : Sound l) (s : List ℕ) (guest vcpu : ℕ) (b : List
           let len : length (values_of b) ≡ slot_bytes = values_long vcpu b t in
           let room : slot_at l (slot_named l s guest vcpu) + slot_bytes ≤ length s = omega (arith, below, long, so.whole) in
           ap (λ (o : Outcome). state_at o.store (slot_at l slot)) (left_by_lem true t)
-          ∙ mark_values l so (put s (slot_at l slot) (values_of b)) slot 0 (slot_at l slot) slot_bytes below (omega (arith, so.guests-fit)) (omega (arith, room, length_put s (slot_at l slot) (values_of b)))
+          ∙ mark_values l so (put s (slot_at l slot) (values_of b)) slot 0 (slot_at l slot) slot_bytes below (omega (arith, so.guests_fit)) (omega (arith, room, length_put s (slot_at l slot) (values_of b)))
           ∙ ap (bytes_at (put s (slot_at l slot) (values_of b)) (slot_at l slot)) (sym len) ∙ read_back s (slot_at l slot) (values_of b) (omega (arith, room, len)) ∙ x.1 v w
 
 -- ---- taking, then giving back
@@ -191,7 +191,7 @@ module _ (l : Layout) (so : Sound l) (s : List ℕ) (guest vcpu : ℕ) (b : List
           let n : length (put s base (zeros slot_bytes)) ≡ length s = length_put s base (zeros slot_bytes) in
           let len : length (values_of c) ≡ slot_bytes = values_long vcpu c shown in
           ap (λ (t : List ℕ). put_taken l (put t base (values_of c)) at 0) left_is
-          ∙ ap (λ (t : List ℕ). put_taken l t at 0) (sym (mark_write l so x base (values_of c) (omega (arith, so.guests-fit)) (omega (arith, n, len, inside)) at 1 f.below))
+          ∙ ap (λ (t : List ℕ). put_taken l t at 0) (sym (mark_write l so x base (values_of c) (omega (arith, so.guests_fit)) (omega (arith, n, len, inside)) at 1 f.below))
           ∙ mark_again l so (put x base (values_of c)) at f.below 1 0 (length_put x base (values_of c) ∙ n ∙ size)
           ∙ ap (λ (t : List ℕ). put_taken l t at 0) restored ∙ mark_none l so s at f.below unmarked
 

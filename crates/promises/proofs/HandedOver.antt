@@ -54,7 +54,7 @@ handed l s j w b = put_taken l (put s (slot_at l j) w) j b
 
 module _ (l : Layout) (so : Sound l) (s : List ℕ) (j : ℕ) (below : j < l.slots) (w : List ℕ) (b : ℕ) where
   values : l.guests_at ≤ slot_at l j
-  values = omega (arith, so.guests-fit)
+  values = omega (arith, so.guests_fit)
 
   pub handed_long : length (handed l s j w b) ≡ length s
   handed_long = mark_long l so (put s (slot_at l j) w) j b ∙ length_put s (slot_at l j) w

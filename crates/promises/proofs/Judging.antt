@@ -159,11 +159,11 @@ module _ (l : Layout) (s : List ℕ) (guest vcpu exit : ℕ) (b : List ℕ) (p :
       back : AllGood (compared ours b) b × SmallestMissing ours b id → judge_told l s guest vcpu exit b ≡ three 20 id 0
       back f =
           judge_told_lem ∙ ap (told_by (element_told Name.JudgeOutput) (told Name.JudgeOutput lack 0)) ((accepted_exactly (compared ours b) b (compared_leads ours b)).1 f.0)
-          ∙ ⊎_elim (λ z. absurd (none_missing ours (elements_of b) z id f.1.ofExit f.1.missing))
+          ∙ ⊎_elim (λ z. absurd (none_missing ours (elements_of b) z id f.1.of_exit f.1.missing))
           (λ z.
           let m = smallest z.0 z.1 in
-          let h : z.0 ≤ id = m.smallest id f.1.ofExit f.1.missing in
-          let k : id ≤ z.0 = f.1.smallest z.0 m.ofExit m.missing in
+          let h : z.0 ≤ id = m.smallest id f.1.of_exit f.1.missing in
+          let k : id ≤ z.0 = f.1.smallest z.0 m.of_exit m.missing in
           let q : z.0 ≡ id = omega arith in
           ap (λ (x : Fault). told Name.JudgeOutput x 0) z.1 ∙ ap (λ (n : ℕ). three 20 n 0) q)
           (lacking_fault ours (elements_of b))

@@ -126,7 +126,7 @@ applied_kept l so base b n s k =
 pub base_values : (l : Layout) → Sound l → (s : List ℕ) (wide : Bool) (guest vcpu : ℕ) → l.guests_at ≤ base_of l s wide guest vcpu
 unfolding base_of
 base_values l so s true guest vcpu = omega arith
-base_values l so s false guest vcpu = omega (arith, so.guests-fit)
+base_values l so s false guest vcpu = omega (arith, so.guests_fit)
 
 record Stays (l : Layout) (o : Outcome) : Type 0 where
   formed : well_formed l o.store ≡ true

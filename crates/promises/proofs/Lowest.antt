@@ -171,7 +171,7 @@ module _ (l : Layout) (so : Sound l) (s : List ℕ) where
 
     pub made_header : header l (with_vcpu l s here g v) ≡ put_slot l (header l s) here (word_of l g v)
     unfolding with_vcpu
-    made_header = header_values l so (put_slot l s here (word_of l g v)) (slot_at l here) (zeros slot_bytes) (omega (arith, so.guests-fit)) ∙ header_slot l so s here (word_of l g v) m.room
+    made_header = header_values l so (put_slot l s here (word_of l g v)) (slot_at l here) (zeros slot_bytes) (omega (arith, so.guests_fit)) ∙ header_slot l so s here (word_of l g v) m.room
 
     -- no slot had the word before, and now the free one has
     made_slot : slot_of l (put_slot l (header l s) here (word_of l g v)) g v ≡ here

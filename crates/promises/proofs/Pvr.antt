@@ -118,7 +118,7 @@ module _ (l : Layout) (so : Sound l) where
   keeps_entry : (s : List ℕ) (i w : ℕ) → i < l.slots → Keeps s (put_slot l s i w)
   unfolding put_slot put_taken
   keeps_entry s i w h =
-      keeps_more s _ _ (keeps_field s (8 * l.taken_at + i) 1 0 (omega (arith, so.marks-head)) (omega (arith, so.marks))) (keeps_word (put_taken l s i 0) i w h)
+      keeps_more s _ _ (keeps_field s (8 * l.taken_at + i) 1 0 (omega (arith, so.marks_head)) (omega (arith, so.marks))) (keeps_word (put_taken l s i 0) i w h)
 
   keeps_live : (s : List ℕ) (g b : ℕ) → 1 ≤ g → g ≤ l.guests → Keeps s (put_live s g b)
   unfolding put_live
@@ -127,8 +127,8 @@ module _ (l : Layout) (so : Sound l) where
   -- values that are not the guests'
   keeps_slot : (s : List ℕ) (j : ℕ) (v : List ℕ) → Keeps s (put s (slot_at l j) v)
   keeps_slot s j v = record {
-    caps = be_other s (slot_at l j) v 0 8 (right (omega (arith, so.head, so.words, so.guests-fit)));
-    pvrs = λ g lo hi. be_other s (slot_at l j) v (guest_at l g + position GuestWide 0x0003) 4 (right (omega (arith, so.guests-fit, pvr_place)));
+    caps = be_other s (slot_at l j) v 0 8 (right (omega (arith, so.head, so.words, so.guests_fit)));
+    pvrs = λ g lo hi. be_other s (slot_at l j) v (guest_at l g + position GuestWide 0x0003) 4 (right (omega (arith, so.guests_fit, pvr_place)));
   }
 
   keeps_one : (s : List ℕ) (g n : ℕ) → n < l.slots → Keeps s (drop_word l g n s)
@@ -309,7 +309,7 @@ module _ (l : Layout) (so : Sound l) where
     -- a slot's values lie behind every guest's
     slot_behind : (guest vcpu g : ℕ) → 1 ≤ g → g ≤ l.guests → Clear (base_of l s false guest vcpu) slot_bytes (guest_at l g) guest_bytes
     unfolding base_of
-    slot_behind guest vcpu g lo hi = right (omega (arith, so.guests-fit))
+    slot_behind guest vcpu g lo hi = right (omega (arith, so.guests_fit))
 
     -- a guest-wide set of the guest itself
     set_own : (flags guest vcpu : ℕ) (b : List ℕ) → hands_over flags ≡ false → has_bit0 flags ≡ true → live l (header l s) guest ≡ true
@@ -336,7 +336,7 @@ module _ (l : Layout) (so : Sound l) where
             let k = context_of l s guest (set_use (has_bit0 flags)) in
             let u : set_use (has_bit0 flags) ≡ GuestSet = ap set_use wide in
             subst (λ (x : ℕ). ZeroOrAgreed (capabilities_of (header l s)) (pvr_of l (applied x b (count_of b) s) guest)) (sym base)
-            (settled (applied_left k u (guest_at l guest) b (walked l s flags guest vcpu b (set_use (has_bit0 flags)) p) (count_of b) (omega arith) s (omega (arith, long, so.guests-fit, so.whole, r.0, r.1))))
+            (settled (applied_left k u (guest_at l guest) b (walked l s flags guest vcpu b (set_use (has_bit0 flags)) p) (count_of b) (omega arith) s (omega (arith, long, so.guests_fit, so.whole, r.0, r.1))))
 
     -- set capabilities: no guest lives, or the bitmap is the agreed one
     caps_agreed : (flags bitmap : ℕ) → Agreed (set_capabilities l s flags bitmap)
@@ -396,7 +396,7 @@ module _ (l : Layout) (so : Sound l) where
                 ∙ (keeps_live s k 1 lo hi).caps ∙ sym (caps_front s)
 
             by_guest : Dec (g ≡ k) → ZeroOrAgreed (capabilities_of (header l t)) (pvr_of l t g)
-            by_guest (yes e) = inl (ap (pvr_of l t) e ∙ ap (λ (x : List ℕ). pvr_of l x k) is ∙ cleared u k (omega (arith, wide, so.guests-fit, so.whole)))
+            by_guest (yes e) = inl (ap (pvr_of l t) e ∙ ap (λ (x : List ℕ). pvr_of l x k) is ∙ cleared u k (omega (arith, wide, so.guests_fit, so.whole)))
             by_guest (no n) =
                 let lives : live l (header l s) g ≡ true = sym (ap (λ (x : List ℕ). live l x g) head ∙ live_else l so (header l s) (header_full l so s long) k lo hi 1 g n) ∙ h in
                 let r = live_parts l (header l s) g lives in
@@ -420,7 +420,7 @@ module _ (l : Layout) (so : Sound l) where
             let u = put_slot l s j w in
             let e = with_vcpu_lem s j guest vcpu in
             let head : header l (with_vcpu l s j guest vcpu) ≡ put_slot l (header l s) j w =
-            ap (header l) e ∙ header_values l so u (slot_at l j) (zeros slot_bytes) (omega (arith, so.guests-fit)) ∙ header_slot l so s j w h in
+            ap (header l) e ∙ header_values l so u (slot_at l j) (zeros slot_bytes) (omega (arith, so.guests_fit)) ∙ header_slot l so s j w h in
             kept (with_vcpu l s j guest vcpu) (subst (Keeps s) (sym e) (keeps_more s u _ (keeps_entry s j w h) (keeps_slot u j (zeros slot_bytes))))
             (λ g a. sym (ap (λ (x : List ℕ). live l x g) head ∙ live_slot l so (header l s) (header_full l so s long) j h w g) ∙ a)
 
@@ -482,7 +482,7 @@ module _ (l : Layout) (so : Sound l) where
         kept t
         (record {
           caps = sym (caps_front t) ∙ handed_caps l so s j f.below w b long ∙ caps_front s;
-          pvrs = λ g lo hi. pvr_kept l s t g (handed_beside l so s j f.below w b long len (guest_at l g) guest_bytes (omega arith) (omega (arith, long, so.guests-fit, so.whole)) (right (omega (arith, so.guests-fit))));
+          pvrs = λ g lo hi. pvr_kept l s t g (handed_beside l so s j f.below w b long len (guest_at l g) guest_bytes (omega arith) (omega (arith, long, so.guests_fit, so.whole)) (right (omega (arith, so.guests_fit))));
         })
         (λ g h. sym (handed_live l so s j f.below w b long g) ∙ h)
 

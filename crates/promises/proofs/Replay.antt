@@ -98,7 +98,7 @@ module _ (l : Layout) (z : List ℕ) (none : is_record (read_head z 0) ≡ false
             ∙ ap (λ (x : List ℕ). record_line n r.kind (turn l s r).registers ++ x) ih.lines_are
             ∙ sym (ap (line_of_each n (r ∷ rs)) (one_turn l r rs fits s));
         at_is =
-            ap (λ (q : Played). q.at) step ∙ ih.at-is
+            ap (λ (q : Played). q.at) step ∙ ih.at_is
             ∙ omega (arith, length-append (packed r) (packed_all rs), length_packed r);
       }
 
@@ -132,7 +132,7 @@ lines_printed {rs} w l z none =
     let e = ends l z none w (fresh l) b [] 0 0 refl refl in
     let same = ap (λ (f : ℕ). played f l (fresh l) b 0 0) all in
     let front : 0 + length (packed_all rs) ≡ length (packed_all rs) = omega arith in
-    ap₂ (λ (x : List ℕ) (i : ℕ). x ++ cond (stops_at true b i) (bad_line i) []) (ap (λ (q : Played). q.lines) same ∙ e.lines_are) (ap (λ (q : Played). q.at) same ∙ e.at-is ∙ front)
+    ap₂ (λ (x : List ℕ) (i : ℕ). x ++ cond (stops_at true b i) (bad_line i) []) (ap (λ (q : Played). q.lines) same ∙ e.lines_are) (ap (λ (q : Played). q.at) same ∙ e.at_is ∙ front)
     ∙ ap (λ (x : List ℕ). line_of_each 0 rs (one_by_one l (fresh l) rs) ++ x) (last_is (packed_all rs) z)
 
 pub replay_one_by_one : (l : Layout) (rs : List CallRecord) → Recorded rs → OneByOne l rs

@@ -153,7 +153,7 @@ module _ (l : Layout) (s : List ℕ) (flags guest vcpu : ℕ) (b : List ℕ) whe
     where
       go : (t : Bool) → bytes_of (scope_for usage) ≡ cond t guest_bytes slot_bytes → (not t && leb l.slots (slot_of l (header l s) guest vcpu)) ≡ false → length s ≡ l.size → 1 ≤ guest → guest ≤ l.guests
           → cond t (guest_at l guest) (slot_at l (slot_of l (header l s) guest vcpu)) + bytes_of (scope_for usage) ≤ length s
-      go true q a long lo hi = omega (arith, q, so.guests-fit, so.whole)
+      go true q a long lo hi = omega (arith, q, so.guests_fit, so.whole)
       go false q a long lo hi = let k : slot_of l (header l s) guest vcpu < l.slots = leb-false _ _ a in omega (arith, q, so.whole)
 
   pub get_room : bytes_of (scope_for (get_use (has_bit0 flags))) ≡ cond (has_bit0 flags) guest_bytes slot_bytes
@@ -247,7 +247,7 @@ module _ (l : Layout) (s : List ℕ) (flags guest vcpu : ℕ) (b : List ℕ) (pl
         set_apart l s flags guest vcpu b plain (guest_at l g) guest_bytes
         (λ p. let r = guest_named p in
         clear_of (slot_at l (slot_of l (header l s) guest vcpu)) slot_bytes (guest_at l g) guest_bytes thread_base thread_bytes
-        (right (omega (arith, so.guests-fit, r.0, r.1))))
+        (right (omega (arith, so.guests_fit, r.0, r.1))))
 
   module _ (wide : has_bit0 flags ≡ true) where
     pub wide_base : base_of l s (has_bit0 flags) guest vcpu ≡ guest_at l guest
@@ -268,4 +268,4 @@ module _ (l : Layout) (s : List ℕ) (flags guest vcpu : ℕ) (b : List ℕ) (pl
     every_slot so j =
         set_apart l s flags guest vcpu b plain (slot_at l j) slot_bytes
         (λ p. let r = guest_named p in
-        clear_of (guest_at l guest) guest_bytes (slot_at l j) slot_bytes wide_base wide_bytes (left (omega (arith, so.guests-fit, r.0, r.1))))
+        clear_of (guest_at l guest) guest_bytes (slot_at l j) slot_bytes wide_base wide_bytes (left (omega (arith, so.guests_fit, r.0, r.1))))

@@ -42,7 +42,7 @@ use Rattle.promises.proofs.Sums.{length_noted, noted_at_lem, noted_nothing, Adds
 
 -- ---- words
 is_named_lem : (g v guest vcpu : ℕ) → Same-vcpu g v guest vcpu → is_named g v guest vcpu ≡ true
-is_named_lem g v guest vcpu x = ap₂ (λ (a b : Bool). a && b) (eq-eqb _ _ x.same-guest) (eq-eqb _ _ x.same_id)
+is_named_lem g v guest vcpu x = ap₂ (λ (a b : Bool). a && b) (eq-eqb _ _ x.same_guest) (eq-eqb _ _ x.same_id)
 
 named_is : (g v guest vcpu : ℕ) → is_named g v guest vcpu ≡ true → Same-vcpu g v guest vcpu
 named_is g v guest vcpu e = go (eqb g guest) (eqb v vcpu) refl refl e
@@ -76,7 +76,7 @@ module _ (l : Layout) (so : Sound l) (s : List ℕ) (good : well_formed l s ≡ 
       other false q n = refl
       other true q n =
           let x = named_is g v guest vcpu q in
-          absurd (n (sym (holder a g v la lv e) ∙ ap₂ (slot_named l s) x.same-guest x.same_id))
+          absurd (n (sym (holder a g v la lv e) ∙ ap₂ (slot_named l s) x.same_guest x.same_id))
 
       go : Dec (a ≡ slot_named l s guest vcpu) → eqb a (slot_named l s guest vcpu) ≡ is_named g v guest vcpu
       go (yes q) =
@@ -221,7 +221,7 @@ module _ (l : Layout) (so : Sound l) (s : List ℕ) (ts : List Summary) (t : ℕ
             unnamed false q = q
             unnamed true q =
                 let y = named_is g v guest vcpu q in
-                let z : slot_named l s guest vcpu ≡ a = ap₂ (slot_named l s) (sym y.same-guest) (sym y.same_id) ∙ holder l so s x.good a g v la lv was in
+                let z : slot_named l s guest vcpu ≡ a = ap₂ (slot_named l s) (sym y.same_guest) (sym y.same_id) ∙ holder l so s x.good a g v la lv was in
                 absurd (omega (arith, m.absent, z, la))
 
         empty : (a : ℕ) → a < l.slots → word l (header l made) a ≡ 0 → Dec (a ≡ here) → get_or us a new_record ≡ new_record
@@ -232,7 +232,7 @@ module _ (l : Layout) (so : Sound l) (s : List ℕ) (ts : List Summary) (t : ℕ
         absent g v n true q =
             let y = named_is g v guest vcpu q in
             let lv : v < 2048 = omega (arith, m.small, y.same_id) in
-            absurd (n here m.room lv (word_made ∙ sym (ap₂ (word_of l) y.same-guest y.same_id)))
+            absurd (n here m.room lv (word_made ∙ sym (ap₂ (word_of l) y.same_guest y.same_id)))
         absent g v n false q = x.gone g v (λ a la lv e. before a la lv e (ℕ_discrete a here))
           where
             before : (a : ℕ) → a < l.slots → v < 2048 → word l (header l s) a ≡ word_of l g v → Dec (a ≡ here) → ⊥

@@ -106,9 +106,9 @@ after_last s u c e = e
 
 before_is : after small (fresh small) busy_before ≡ b₆
 before_is =
-    after_first _ _ new_guest _ b₆ before.came (after_first _ _ (SetState bit0 1 0 (one 0x0004 8 77)) _ b₆ before.set-old
+    after_first _ _ new_guest _ b₆ before.came (after_first _ _ (SetState bit0 1 0 (one 0x0004 8 77)) _ b₆ before.set_old
     (after_first _ _ own_create _ b₆ before.made (after_first _ _ own_take _ b₆ before.took
-    (after_first _ _ new_guest _ b₆ before.second-came (after_first _ _ (DeleteGuest 0 1) _ b₆ before.left (after_last _ _ (CreateVcpu 0 2 3) before.other))))))
+    (after_first _ _ new_guest _ b₆ before.second_came (after_first _ _ (DeleteGuest 0 1) _ b₆ before.left (after_last _ _ (CreateVcpu 0 2 3) before.other))))))
 
 -- ---- guest 1 is created
 record Told (s : List ℕ) : Type 0 where
@@ -217,20 +217,20 @@ both_next s t u v cs ds c n e r p q k = common c n e r (subst (λ (x : List ℕ)
 side : Side s₀ t₀ alone_calls busy_calls
 unfolding bytes_at put be digits zeros bit bits every search header capabilities_of live word word_of is_used guest_of is_taken holds lacks alone slot_good head_good words_good slot_holding slot_of free_slot well_formed fresh decide create_vcpu outcome registers
 side =
-    alone_next s₀ t₀ t₁ alone_calls _ new_guest refl refl stores.t-third
-    (both_next s₀ t₁ s₁ t₂ _ _ own_create refl refl (λ i. refl) stores.s-create stores.t-create
-    (alone_next s₁ t₂ t₂ _ _ (SetCapabilities 0 (2 ^ 62)) refl refl stores.t-caps
-    (both_next s₁ t₂ s₂ t₃ _ _ own_take refl refl (λ i. absurd (no_bool i)) stores.s-take stores.t_take
-    (alone_next s₂ t₃ t₄ _ _ (GetState bit1 2 3 (zeros 1844)) refl refl stores.t-other
+    alone_next s₀ t₀ t₁ alone_calls _ new_guest refl refl stores.t_third
+    (both_next s₀ t₁ s₁ t₂ _ _ own_create refl refl (λ i. refl) stores.s_create stores.t_create
+    (alone_next s₁ t₂ t₂ _ _ (SetCapabilities 0 (2 ^ 62)) refl refl stores.t_caps
+    (both_next s₁ t₂ s₂ t₃ _ _ own_take refl refl (λ i. absurd (no_bool i)) stores.s_take stores.t_take
+    (alone_next s₂ t₃ t₄ _ _ (GetState bit1 2 3 (zeros 1844)) refl refl stores.t_other
     (both_next s₂ t₄ s₂ t₄ _ _ own_get refl refl (λ i. absurd (no_bool i)) (got s₂) (got t₄)
-    (both_next s₂ t₄ s₁ t₅ _ _ own_give refl refl (λ i. absurd (no_bool i)) stores.s-give stores.t-give
-    (both_next s₁ t₅ s₃ t₆ _ _ own_set refl refl (λ i. absurd (no_bool i)) stores.s-set stores.t-set
+    (both_next s₂ t₄ s₁ t₅ _ _ own_give refl refl (λ i. absurd (no_bool i)) stores.s_give stores.t_give
+    (both_next s₁ t₅ s₃ t₆ _ _ own_set refl refl (λ i. absurd (no_bool i)) stores.s_set stores.t_set
     (both_next s₃ t₆ s₃ t₆ _ _ own_get refl refl (λ i. absurd (no_bool i)) (got s₃) (got t₆)
-    (alone_next s₃ t₆ t₇ _ _ (DeleteGuest 0 2) refl refl stores.t-drop
+    (alone_next s₃ t₆ t₇ _ _ (DeleteGuest 0 2) refl refl stores.t_drop
     (common own_clock refl refl (λ i. absurd (no_bool i)) end))))))))))
 
 busy_start_lem : busy_start ≡ t₀
-busy_start_lem = ap (λ (s : List ℕ). (outcome small s new_guest).store) before_is ∙ stores.t-start
+busy_start_lem = ap (λ (s : List ℕ). (outcome small s new_guest).store) before_is ∙ stores.t_start
 
 -- so the hypotheses are met
 pub isolated_met : SideBySide small small 1 alone_start busy_start alone_calls busy_calls
@@ -270,11 +270,11 @@ listed_none s = refl
 
 alone_sees : replies_for small 1 s₀ alone_calls ≡ both_see
 alone_sees =
-    own_next small 1 s₀ seen.live₀ own_create _ refl ∙ ap (λ (s : List ℕ). replies_for small 1 s (own_take ∷ own_get ∷ own_give ∷ own_set ∷ own_get ∷ own_clock ∷ [])) stores.s-create
-    ∙ listed s₁ s₂ own_take _ _ _ seen.live₁ refl refl stores.s-take seen.take
+    own_next small 1 s₀ seen.live₀ own_create _ refl ∙ ap (λ (s : List ℕ). replies_for small 1 s (own_take ∷ own_get ∷ own_give ∷ own_set ∷ own_get ∷ own_clock ∷ [])) stores.s_create
+    ∙ listed s₁ s₂ own_take _ _ _ seen.live₁ refl refl stores.s_take seen.take
     (listed s₂ s₂ own_get _ _ _ seen.live₂ refl refl (got s₂) seen.away
-    (listed s₂ s₁ own_give _ _ _ seen.live₂ refl refl stores.s-give seen.give
-    (listed s₁ s₃ own_set _ _ _ seen.live₁ refl refl stores.s-set seen.set
+    (listed s₂ s₁ own_give _ _ _ seen.live₂ refl refl stores.s_give seen.give
+    (listed s₁ s₃ own_set _ _ _ seen.live₁ refl refl stores.s_set seen.set
     (listed s₃ s₃ own_get _ _ _ seen.live₃ refl refl (got s₃) seen.get
     (listed s₃ (outcome small s₃ own_clock).store own_clock [] _ _ seen.live₃ refl refl refl seen.clock (listed_none (outcome small s₃ own_clock).store))))))
 

@@ -73,7 +73,7 @@ pub head_put : (s : List ℕ) (h : Head) (x y : List ℕ) → Narrow h
     → y ≡ put s 0 (digits 31 (head_number h))
 unfolding head_number
 head_put s h x y narrow ex ey =
-    let l = last_lt h.number h.exit_reason h.data_len h.effect_len narrow.exitFits narrow.dataFits narrow.effectFits in
+    let l = last_lt h.number h.exit_reason h.data_len h.effect_len narrow.exit_fits narrow.data_fits narrow.effect_fits in
     put_two 24 7 s 0 (((h.kind * 2 ^ 64 + h.flags) * 2 ^ 64 + h.guest) * 2 ^ 60 + h.number / 16) _ x y l ex ey
     ∙ ap (λ (v : ℕ). put s 0 (digits 31 v))
     (last_across ((h.kind * 2 ^ 64 + h.flags) * 2 ^ 64 + h.guest) h.number h.exit_reason h.data_len h.effect_len)

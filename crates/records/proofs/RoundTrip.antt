@@ -71,13 +71,13 @@ module _ (h : Head) (n : Narrow h) (hf : h.flags < 2 ^ 64) (hg : h.guest < 2 ^ 6
   from_6 = shl-shr (to_data h * 2 ^ 17 + h.effect_len) 6
 
   from_23 : head_number h / 2 ^ 23 ≡ to_data h
-  from_23 = above (head_number h) 6 17 (to_data h) from_6 n.effectFits
+  from_23 = above (head_number h) 6 17 (to_data h) from_6 n.effect_fits
 
   from_40 : head_number h / 2 ^ 40 ≡ to_exit h
-  from_40 = above (head_number h) 23 17 (to_exit h) from_23 n.dataFits
+  from_40 = above (head_number h) 23 17 (to_exit h) from_23 n.data_fits
 
   from_52 : head_number h / 2 ^ 52 ≡ to_number h
-  from_52 = above (head_number h) 40 12 (to_number h) from_40 n.exitFits
+  from_52 = above (head_number h) 40 12 (to_number h) from_40 n.exit_fits
 
   from_116 : head_number h / 2 ^ 116 ≡ to_guest h
   from_116 = above (head_number h) 52 64 (to_guest h) from_52 hn
@@ -139,18 +139,18 @@ module _ (r : CallRecord) (p z : List ℕ) where
     its_head =
         let h = head_of r in
         let v = head_number (head_of r) in
-        let f = w.flagsFit in
-        let g = w.guestFits in
-        let m = w.numberFits in
+        let f = w.flags_fit in
+        let g = w.guest_fits in
+        let m = w.number_fits in
         let at : 8 * length p ≡ 8 * length p + 0 = omega arith in
         let e₁ : bits (among r p z) (8 * length p) 4 ≡ r.kind =
-        ap (λ (i : ℕ). bits (among r p z) i 4) at ∙ reads 0 4 244 refl (ap (λ (x : ℕ). x % 2 ^ 4) (from_244 h n f g m) ∙ mod-eq_of_lt n.kindFits) in
+        ap (λ (i : ℕ). bits (among r p z) i 4) at ∙ reads 0 4 244 refl (ap (λ (x : ℕ). x % 2 ^ 4) (from_244 h n f g m) ∙ mod-eq_of_lt n.kind_fits) in
         let e₂ : bits (among r p z) (8 * length p + 4) 64 ≡ r.flags = reads 4 64 180 refl (those v 180 64 r.kind (from_180 h n f g m) f) in
         let e₃ : bits (among r p z) (8 * length p + 68) 64 ≡ r.guest = reads 68 64 116 refl (those v 116 64 (to_flags h) (from_116 h n f g m) g) in
         let e₄ : bits (among r p z) (8 * length p + 132) 64 ≡ r.number = reads 132 64 52 refl (those v 52 64 (to_guest h) (from_52 h n f g m) m) in
-        let e₅ : bits (among r p z) (8 * length p + 196) 12 ≡ r.exit = reads 196 12 40 refl (those v 40 12 (to_number h) (from_40 h n f g m) n.exitFits) in
-        let e₆ : bits (among r p z) (8 * length p + 208) 17 ≡ length r.«data» = reads 208 17 23 refl (those v 23 17 (to_exit h) (from_23 h n f g m) n.dataFits) in
-        let e₇ : bits (among r p z) (8 * length p + 225) 17 ≡ length r.effect = reads 225 17 6 refl (those v 6 17 (to_data h) (from_6 h n f g m) n.effectFits) in
+        let e₅ : bits (among r p z) (8 * length p + 196) 12 ≡ r.exit = reads 196 12 40 refl (those v 40 12 (to_number h) (from_40 h n f g m) n.exit_fits) in
+        let e₆ : bits (among r p z) (8 * length p + 208) 17 ≡ length r.«data» = reads 208 17 23 refl (those v 23 17 (to_exit h) (from_23 h n f g m) n.data_fits) in
+        let e₇ : bits (among r p z) (8 * length p + 225) 17 ≡ length r.effect = reads 225 17 6 refl (those v 6 17 (to_data h) (from_6 h n f g m) n.effect_fits) in
         rw (e₁, e₂, e₃, e₄, e₅, e₆, e₇)
 
     its_padding : padding (among r p z) (length p) ≡ 0
@@ -168,7 +168,7 @@ record_round_trip r fits w p z =
     omega (arith, length-append p (packed r ++ z), length-append (packed r) z, length_packed r) in
     let uncut : length p + 31 ≤ length (among r p z) = omega arith in
     let inside : length p + (31 + length r.«data» + length r.effect) ≤ length (among r p z) = omega arith in
-    let heads : Heads (among r p z) (length p) (head_of r) = record { is = sym (its_head r p z n w); data_fits = n.dataFits; effect_fits = n.effectFits } in
+    let heads : Heads (among r p z) (length p) (head_of r) = record { is = sym (its_head r p z n w); data_fits = n.data_fits; effect_fits = n.effect_fits } in
     record {
       head =
           sym

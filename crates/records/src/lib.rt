@@ -1,5 +1,7 @@
 // Call records: `reading` tells a record from bytes that are none, `writing` makes one, `playing` makes the calls of many, and `lines` says
 // what each one told. The types are here.
+#![tactic(auto)]
+
 mod lines;
 mod playing;
 mod reading;
@@ -13,7 +15,7 @@ pub use reading::read_head;
 pub use writing::write_record;
 
 // What stands before a record's two pieces of data. `number` is the vCPU, the token or the bitmap.
-#[derive(Drop)]
+#[derive(Clone, Copy)]
 pub struct Head {
     pub kind: u64,
     pub flags: u64,
@@ -25,7 +27,7 @@ pub struct Head {
 }
 
 // `Cut`: the bytes end before the record does. `Bad`: no bytes behind them make it a record.
-#[derive(Drop)]
+#[derive(Clone, Copy)]
 pub enum Read {
     Record(Head),
     Cut,

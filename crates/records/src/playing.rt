@@ -28,7 +28,7 @@ const OUTPUT: usize = 65536;
 
 // What a window left: how many bytes wait at its front for more, how much text was written, the number and the offset in the input of
 // the record that those bytes begin, and whether more input is to be read.
-#[derive(Drop)]
+#[derive(Clone, Copy)]
 pub struct Step {
     pub kept: usize,
     pub written: usize,
@@ -37,14 +37,14 @@ pub struct Step {
     pub more: bool,
 }
 
-#[derive(Drop)]
+#[derive(Clone, Copy)]
 pub enum Replayed {
     Refused,
     Done(Step),
 }
 
 // Where records end: behind the last that was played, whose lines end at `end`; `bad` if what follows is no record, whatever comes.
-#[derive(Drop)]
+#[derive(Clone, Copy)]
 pub struct Stop {
     pub at: usize,
     pub number: u64,

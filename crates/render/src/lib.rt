@@ -1,4 +1,6 @@
 // The listing of a guest state buffer, rendered into a lent text buffer.
+#![tactic(auto)]
+
 mod lines;
 
 ghost use Rattle.std.specs.Prelude.{◌≡◌, length};
@@ -9,7 +11,7 @@ use lines::{push_answer, push_first, push_lines};
 use text::push;
 
 // The listing's length, or the lent buffer is too short.
-#[derive(Drop)]
+#[derive(Clone, Copy)]
 pub enum Rendered {
     Text(usize),
     Short,

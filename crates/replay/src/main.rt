@@ -1,4 +1,6 @@
 // Replays a night: call records on standard input, played on a fresh store, and a line for each on standard output.
+#![tactic(auto)]
+
 ghost use Rattle.std.specs.Prelude.{◌≡◌, length};
 
 use libc::{STDIN_FILENO, STDOUT_FILENO};

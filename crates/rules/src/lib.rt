@@ -1,5 +1,7 @@
 // What a call may do with an element: the use permits it, and its size is the listed one. `values` tests the value; what both mean
 // is defined here.
+#![tactic(auto)]
+
 mod values;
 
 ghost use Rattle.std.specs.Prelude.{◌≡◌};
@@ -11,7 +13,7 @@ use elements::{Access, Entry, Kind, Offer, Scope, is_offered};
 pub use values::{good_input, good_output, good_value};
 
 // What a buffer is used for. An effect is 01's word for what the processor wrote during a run.
-#[derive(Drop)]
+#[derive(Clone, Copy)]
 pub enum Usage {
     GuestGet,
     GuestSet,
@@ -22,7 +24,7 @@ pub enum Usage {
 }
 
 // All that judging an element depends on beside its bytes: the use, the capabilities agreed at the call, and the guest's list.
-#[derive(Drop)]
+#[derive(Clone, Copy)]
 pub struct Context {
     pub usage: Usage,
     pub capabilities: u64,

@@ -1,4 +1,6 @@
 // The tests of a run, before a byte of the store or of the output changes. `entry` runs; what both mean is defined here.
+#![tactic(auto)]
+
 mod entry;
 
 ghost use Rattle.std.specs.Prelude.{◌≡◌, ◌+◌, ◌≤◌, length};
@@ -15,7 +17,7 @@ use rules::{Context, Usage, good_input, good_output};
 use state::context_of;
 
 // What a run works on: where the vCPU's values start, and how many bytes of the lent input count; or a refusal.
-#[derive(Drop)]
+#[derive(Clone, Copy)]
 pub enum RunTarget {
     Refused(Fault),
     Slot(usize, usize),

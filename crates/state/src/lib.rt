@@ -1,5 +1,7 @@
 // Get state and set state. The whole buffer is judged before a byte of the store or of the buffer changes. `hand_over` is what both do
 // with bit 1, `single` gets one element; what they mean is defined here.
+#![tactic(auto)]
+
 mod hand_over;
 mod single;
 

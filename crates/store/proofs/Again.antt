@@ -50,7 +50,7 @@ module _ (l : Layout) (so : Sound l) (s : List ℕ) (a : ℕ) (la : a < l.slots)
   -- the later of two marks counts
   pub mark_again : (b c : ℕ) → length s ≡ l.size → put_taken l (put_taken l s a b) a c ≡ put_taken l s a c
   mark_again b c long =
-      let k : at < 8 * length s = omega (arith, so.marks, so.guests-fit, so.whole, long) in
+      let k : at < 8 * length s = omega (arith, so.marks, so.guests_fit, so.whole, long) in
       mark_bit (put_taken l s a b) c ∙ ap (λ (t : List ℕ). set_bit t at c) (mark_bit s b) ∙ bit_again s at b c k ∙ sym (mark_bit s c)
 
   -- a mark cleared where there is none, or set where there is one

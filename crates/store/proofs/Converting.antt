@@ -33,7 +33,7 @@ module _ (l m : Layout) (w : ℕ) where
     recode_small h = omega (arith, within.guests, so'.nameable)
 
     pub recode_room : l.ids * 2048 ≤ w → w - l.ids * 2048 + m.ids * 2048 < 2 ^ 64
-    recode_room h = omega (arith, recode_small h, so'.few-ids)
+    recode_room h = omega (arith, recode_small h, so'.few_ids)
 
 pub some_ids : (m : Layout) → Sound m → 0 < 4096 * m.ids
 some_ids m so = omega (arith, so.nameable)
@@ -55,10 +55,10 @@ word_named l s a x good k e = omega (arith, word_guest l s good a k, ap (λ (y :
 
 module _ (l : Layout) (so : Sound l) (s : List ℕ) (good : well_formed l s ≡ true) where
   pub caps_room : 0 + 8 ≤ length s
-  caps_room = omega (arith, formed_long l s good, so.head, so.words, so.guests-fit, so.whole)
+  caps_room = omega (arith, formed_long l s good, so.head, so.words, so.guests_fit, so.whole)
 
   pub guests_room : l.guests_at + guest_bytes * l.guests ≤ length s
-  guests_room = omega (arith, formed_long l s good, so.guests-fit, so.whole)
+  guests_room = omega (arith, formed_long l s good, so.guests_fit, so.whole)
 
   pub slots_room : l.slots_at + slot_bytes * l.slots ≤ length s
   slots_room = omega (arith, formed_long l s good, so.whole)
@@ -66,10 +66,10 @@ module _ (l : Layout) (so : Sound l) (s : List ℕ) (good : well_formed l s ≡ 
 -- ---- room in the target
 module _ (l m : Layout) (so : Sound m) (within : Within l m) (t : List ℕ) (long : length t ≡ m.size) where
   pub caps_fit : 0 + 8 ≤ length t
-  caps_fit = omega (arith, so.head, so.words, so.guests-fit, so.whole)
+  caps_fit = omega (arith, so.head, so.words, so.guests_fit, so.whole)
 
   pub guests_fit : m.guests_at + guest_bytes * l.guests ≤ length t
-  guests_fit = omega (arith, within.guests, so.guests-fit, so.whole)
+  guests_fit = omega (arith, within.guests, so.guests_fit, so.whole)
 
   pub slots_fit : m.slots_at + slot_bytes * l.slots ≤ length t
   slots_fit = omega (arith, within.slots, so.whole)

@@ -63,7 +63,7 @@ module _ (l : Layout) (so : Sound l) where
       record { long = mark_long l so s j b ∙ e; capabilities = caps; behind = λ p k x y. mark_values l so s j b p k hj x (omega (arith, e)) }
     where
       caps : capabilities_of (header l (put_taken l s j b)) ≡ capabilities_of (header l s)
-      caps = ap capabilities_of (header_mark l so s j b hj) ∙ be_put_bits (header l s) (8 * l.taken_at + j) 1 b 0 8 (right (omega (arith, so.marks-head)))
+      caps = ap capabilities_of (header_mark l so s j b hj) ∙ be_put_bits (header l s) (8 * l.taken_at + j) 1 b 0 8 (right (omega (arith, so.marks_head)))
 
   pub slot_edited : (s : List ℕ) → length s ≡ l.size → (j w : ℕ) → j < l.slots → Edited l s (put_slot l s j w)
   unfolding put_slot
@@ -123,7 +123,7 @@ module _ (l : Layout) (so : Sound l) (h : List ℕ) (j : ℕ) where
 
   pub zeros_mark : (b : ℕ) → bits (put_taken l h j b) (64 + l.guests) l.zeros ≡ bits h (64 + l.guests) l.zeros
   unfolding put_taken
-  zeros_mark b = bits_put_other h (8 * l.taken_at + j) 1 b (64 + l.guests) l.zeros (right (omega (arith, so.marks-head)))
+  zeros_mark b = bits_put_other h (8 * l.taken_at + j) 1 b (64 + l.guests) l.zeros (right (omega (arith, so.marks_head)))
 
 -- ---- guests that a layout does not have
 pub dead_zero : (l : Layout) (h : List ℕ) (g : ℕ) → g < 1 → live l h g ≡ false

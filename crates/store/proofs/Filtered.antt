@@ -18,7 +18,7 @@ use Rattle.store.proofs.Noted.{noted_zero, noted_more, new_alone}
 
 -- a word is small enough to be hashed
 pub hashable : (l : Layout) (w : ℕ) → Sound l → w < 4096 * l.ids → w < 2 ^ 18
-hashable l w h k = omega (arith, h.few-ids)
+hashable l w h k = omega (arith, h.few_ids)
 
 -- ---- a word against all before it
 module _ (l : Layout) (h : List ℕ) (w a : ℕ) where

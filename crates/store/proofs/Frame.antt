@@ -21,7 +21,7 @@ use Rattle.store.proofs.Readings.{step}
 module _ (l : Layout) (so : Sound l) (s : List ℕ) where
   pub header_full : length s ≡ l.size → length (header l s) ≡ l.guests_at
   unfolding header
-  header_full e = length_bytes_at s 0 l.guests_at (omega (arith, so.guests-fit, so.whole))
+  header_full e = length_bytes_at s 0 l.guests_at (omega (arith, so.guests_fit, so.whole))
 
   -- the frame of every write into values
   pub header_values : (p : ℕ) (v : List ℕ) → l.guests_at ≤ p → header l (put s p v) ≡ header l s

@@ -25,7 +25,7 @@ module _ (l : Layout) (so : Sound l) where
 
   fresh_header : header l (fresh l) ≡ top
   unfolding header fresh
-  fresh_header = zeros_part l.size 0 l.guests_at (omega (arith, so.guests-fit, so.whole))
+  fresh_header = zeros_part l.size 0 l.guests_at (omega (arith, so.guests_fit, so.whole))
 
   no_bits : (a n : ℕ) → bits top a n ≡ 0
   no_bits a n = bits_none top a n (λ k q. bit_zeros l.guests_at (a + k))

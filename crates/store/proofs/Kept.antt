@@ -163,7 +163,7 @@ module _ (l : Layout) (so : Sound l) (h : List ℕ) where
   unfolding is_taken
   caps_taken c a =
       ap (λ (x : ℕ). eqb x 1)
-      (sym (bits_one (put_capabilities h c) (8 * l.taken_at + a)) ∙ caps_bits c (8 * l.taken_at + a) 1 (omega (arith, so.marks-head)) ∙ bits_one h (8 * l.taken_at + a))
+      (sym (bits_one (put_capabilities h c) (8 * l.taken_at + a)) ∙ caps_bits c (8 * l.taken_at + a) 1 (omega (arith, so.marks_head)) ∙ bits_one h (8 * l.taken_at + a))
 
   pub caps_live : (c g : ℕ) → live l (put_capabilities h c) g ≡ live l h g
   unfolding live
@@ -272,7 +272,7 @@ module _ (l : Layout) (so : Sound l) (s : List ℕ) (good : well_formed l s ≡ 
 
       pub vcpu_kept : well_formed l (with_vcpu l s (free_slot l (header l s)) g v) ≡ true
       unfolding with_vcpu
-      vcpu_kept = formed_values l so (put_slot l s (free_slot l (header l s)) (word_of l g v)) (slot_at l (free_slot l (header l s))) (zeros slot_bytes) (omega (arith, so.guests-fit)) ∙ claimed
+      vcpu_kept = formed_values l so (put_slot l s (free_slot l (header l s)) (word_of l g v)) (slot_at l (free_slot l (header l s))) (zeros slot_bytes) (omega (arith, so.guests_fit)) ∙ claimed
 
   -- ---- delete guest: t is s less the words of guest g below n
   pub record Less (g n : ℕ) (t : List ℕ) : Type 0 where
@@ -485,7 +485,7 @@ module _ (l : Layout) (so : Sound l) (s : List ℕ) (good : well_formed l s ≡ 
   pub vcpu_header : (j : ℕ) → j < l.slots → (g v : ℕ) → header l (with_vcpu l s j g v) ≡ put_slot l (header l s) j (word_of l g v)
   unfolding with_vcpu
   vcpu_header j hj g v =
-      header_values l so (put_slot l s j (word_of l g v)) (slot_at l j) (zeros slot_bytes) (omega (arith, so.guests-fit)) ∙ header_slot l so s j (word_of l g v) hj
+      header_values l so (put_slot l s j (word_of l g v)) (slot_at l j) (zeros slot_bytes) (omega (arith, so.guests_fit)) ∙ header_slot l so s j (word_of l g v) hj
 
   -- ---- marks: only a used slot has one, and it may be set there
   module _ (a : ℕ) (la : a < l.slots) where

@@ -44,18 +44,18 @@ module _ (l : Layout) (so : Sound l) (h : List ℕ) (full : length h ≡ l.guest
             two false = refl
         go true e =
             ap (λ (x : ℕ). (leb 1 g && true) && eqb x 1)
-            (bit_put_other h (8 * l.taken_at + j) 1 b (63 + g) (right (omega (arith, leb-true g l.guests e, so.marks-head, so.some-zeros))))
+            (bit_put_other h (8 * l.taken_at + j) 1 b (63 + g) (right (omega (arith, leb-true g l.guests e, so.marks_head, so.some_zeros))))
 
     pub caps_mark : capabilities_of (put_taken l h j b) ≡ capabilities_of h
     unfolding capabilities_of put_taken
-    caps_mark = be_put_bits h (8 * l.taken_at + j) 1 b 0 8 (right (omega (arith, so.marks-head)))
+    caps_mark = be_put_bits h (8 * l.taken_at + j) 1 b 0 8 (right (omega (arith, so.marks_head)))
 
     pub head_mark : head_good l (put_taken l h j b) ≡ head_good l h
     unfolding head_good capabilities_of put_taken
     head_mark =
         ap₂ (λ (x y : ℕ). eqb (outside offered x) 0 && eqb y 0)
-        (be_put_bits h (8 * l.taken_at + j) 1 b 0 8 (right (omega (arith, so.marks-head))))
-        (bits_put_other h (8 * l.taken_at + j) 1 b (64 + l.guests) l.zeros (right (omega (arith, so.marks-head))))
+        (be_put_bits h (8 * l.taken_at + j) 1 b 0 8 (right (omega (arith, so.marks_head))))
+        (bits_put_other h (8 * l.taken_at + j) 1 b (64 + l.guests) l.zeros (right (omega (arith, so.marks_head))))
 
     pub taken_here : is_taken l (put_taken l h j b) j ≡ eqb (b % 2) 1
     unfolding is_taken put_taken

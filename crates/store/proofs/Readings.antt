@@ -54,14 +54,14 @@ module _ (l : Layout) (h : Sound l) (s : List ℕ) where
 
   -- four bytes from its first one on are in the store, though not all in the header
   pub word_room : (i n : ℕ) → i < l.slots → n ≡ l.size → word_at l i / 8 + 4 ≤ n
-  word_room i n k e = omega (arith, word_inside i k, h.guests-fit, h.whole)
+  word_room i n k e = omega (arith, word_inside i k, h.guests_fit, h.whole)
 
   -- its place is a small number
   pub times_fits : (i : ℕ) → i < l.slots → Fits w64 (l.width * i)
-  times_fits i k = omega (arith, word_inside i k, h.guests-fit, h.whole, h.small_size)
+  times_fits i k = omega (arith, word_inside i k, h.guests_fit, h.whole, h.small_size)
 
   pub place_fits : (i : ℕ) → i < l.slots → Fits w64 (word_at l i)
-  place_fits i k = omega (arith, word_inside i k, h.guests-fit, h.whole, h.small_size)
+  place_fits i k = omega (arith, word_inside i k, h.guests_fit, h.whole, h.small_size)
 
   pub word_read : (i x : ℕ) → i < l.slots → x ≡ bits s (word_at l i) l.width → x ≡ word l (header l s) i
   unfolding word header
@@ -78,7 +78,7 @@ module _ (l : Layout) (h : Sound l) (s : List ℕ) where
         omega (arith, h.words)
 
     pub pair_room : (i n : ℕ) → i < l.slots → n ≡ l.size → l.words_at + 2 * i + 2 ≤ n
-    pair_room i n k e = omega (arith, pair_inside i k, h.guests-fit, h.whole)
+    pair_room i n k e = omega (arith, pair_inside i k, h.guests_fit, h.whole)
 
     module _ (b : (k : ℕ) → Fits w8 (get_or s k 0)) (i x : ℕ) (k : i < l.slots) (e : x ≡ be s (l.words_at + 2 * i) 2) where
       pair_bits : x ≡ bits s (word_at l i) l.width
@@ -114,7 +114,7 @@ module _ (l : Layout) (h : Sound l) (s : List ℕ) where
     live_bit : (x : ℕ) → 1 ≤ g → g ≤ l.guests → x ≡ get_or s ((63 + g) / 8) 0 → eqb (x / 2 ^ (7 - (63 + g) % 8) % 2) 1 ≡ live l (header l s) g
     unfolding live header
     live_bit x k m e =
-        let p : 63 + g < 8 * l.guests_at = omega (arith, h.head, h.words, h.some-zeros) in
+        let p : 63 + g < 8 * l.guests_at = omega (arith, h.head, h.words, h.some_zeros) in
         simp (le-leb _ _ k, le-leb _ _ m) (ap (λ (y : ℕ). eqb y 1) (bit_of_lem s (63 + g) x e ∙ sym (bit_front s l.guests_at (63 + g) p)))
 
     pub live_read : (x : ℕ) → 1 ≤ g → g ≤ l.guests → x ≡ get_or s (8 + (g - 1) / 8) 0 → x < 256
@@ -128,7 +128,7 @@ module _ (l : Layout) (h : Sound l) (s : List ℕ) where
         ∙ live_bit x k m (e ∙ ap (λ (n : ℕ). get_or s n 0) p)
 
     pub live_byte : g ≤ l.guests → (63 + g) / 8 < l.guests_at
-    live_byte m = omega (arith, h.head, h.words, h.some-zeros)
+    live_byte m = omega (arith, h.head, h.words, h.some_zeros)
 
   -- ---- a mark
   pub taken_read : (a x : ℕ) → a < l.slots → x ≡ get_or s (l.taken_at + a / 8) 0 → x < 256 → eqb (x * 2 ^ (a % 8) % 2 ^ 64 / 128 % 2) 1 ≡ is_taken l (header l s) a
@@ -159,11 +159,11 @@ module _ (l : Layout) (h : Sound l) (s : List ℕ) where
     head_zeros x z q m =
         let z' : outside offered (capabilities_of (bytes_at s 0 l.guests_at)) ≡ 0 = ap (outside offered) (sym (caps_read c e)) ∙ z in
         let p = (64 + l.guests) / 8 in
-        let a : 64 + l.guests ≡ 8 * p + (8 - l.zeros) = omega (arith, h.whole-bytes, h.some-zeros, h.few-zeros) in
-        let b : 8 - (8 - l.zeros) - l.zeros ≡ 0 = omega (arith, h.few-zeros) in
+        let a : 64 + l.guests ≡ 8 * p + (8 - l.zeros) = omega (arith, h.whole_bytes, h.some_zeros, h.few_zeros) in
+        let b : 8 - (8 - l.zeros) - l.zeros ≡ 0 = omega (arith, h.few_zeros) in
         let o : 64 + l.guests + l.zeros ≤ 8 * l.guests_at = omega (arith, h.head, h.words) in
         let d : bits (bytes_at s 0 l.guests_at) (64 + l.guests) l.zeros ≡ x / 2 ^ 0 % 2 ^ l.zeros =
-        bits_front s l.guests_at (64 + l.guests) l.zeros o ∙ ap (λ (n : ℕ). bits s n l.zeros) a ∙ bits_byte s p (8 - l.zeros) l.zeros (omega (arith, h.few-zeros))
+        bits_front s l.guests_at (64 + l.guests) l.zeros o ∙ ap (λ (n : ℕ). bits s n l.zeros) a ∙ bits_byte s p (8 - l.zeros) l.zeros (omega (arith, h.few_zeros))
         ∙ ap₂ (λ (y n : ℕ). y / 2 ^ n % 2 ^ l.zeros) (sym q) b in
         let f : x / 2 ^ 0 ≡ x = omega arith in
         rest x l.zeros m ∙ sym (simp (eq-eqb _ _ z') (ap (λ (y : ℕ). eqb y 0) (d ∙ ap (λ (y : ℕ). y % 2 ^ l.zeros) f)))
@@ -179,4 +179,4 @@ module _ (l : Layout) (h : Sound l) (s : List ℕ) where
             go i (no u) = let v : x ≢ x / 2 ^ n * 2 ^ n = omega arith in ne_eqb _ _ v ∙ sym (ne_eqb _ _ u)
 
     pub zeros_byte : (64 + l.guests) / 8 < l.guests_at
-    zeros_byte = omega (arith, h.head, h.words, h.some-zeros)
+    zeros_byte = omega (arith, h.head, h.words, h.some_zeros)

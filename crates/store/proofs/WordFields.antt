@@ -31,7 +31,7 @@ word_fields l h i n e =
 
 -- a mark and a slot word have no bit in common
 pub mark_clear : (l : Layout) → Sound l → (j a : ℕ) → j < l.slots → a < l.slots → Clear (8 * l.taken_at + j) 1 (word_at l a) l.width
-mark_clear l so j a hj la = go so.marks-apart
+mark_clear l so j a hj la = go so.marks_apart
   where
     go : (8 * l.taken_at + l.slots ≤ 8 * l.words_at) ⊎ (8 * l.words_at + l.width * l.slots ≤ 8 * l.taken_at)
         → Clear (8 * l.taken_at + j) 1 (word_at l a) l.width
@@ -76,7 +76,7 @@ module _ (l : Layout) (so : Sound l) (h : List ℕ) (full : length h ≡ l.guest
             two false = refl
         go true e =
             ap (λ (x : ℕ). (leb 1 g && true) && eqb x 1)
-            (bit_put_other h (word_at l j) l.width w (63 + g) (right (omega (arith, leb-true g l.guests e, so.head, so.some-zeros))))
+            (bit_put_other h (word_at l j) l.width w (63 + g) (right (omega (arith, leb-true g l.guests e, so.head, so.some_zeros))))
 
     pub taken_same : (a : ℕ) → a < l.slots → is_taken l (put_word l h j w) a ≡ is_taken l h a
     unfolding is_taken put_word
@@ -105,7 +105,7 @@ module _ (l : Layout) (so : Sound l) (h : List ℕ) (full : length h ≡ l.guest
 
     pub taken_live : (a : ℕ) → is_taken l (put_live h g b) a ≡ is_taken l h a
     unfolding is_taken put_live
-    taken_live a = ap (λ (x : ℕ). eqb x 1) (bit_put_other h (63 + g) 1 b (8 * l.taken_at + a) (left (omega (arith, so.marks-head))))
+    taken_live a = ap (λ (x : ℕ). eqb x 1) (bit_put_other h (63 + g) 1 b (8 * l.taken_at + a) (left (omega (arith, so.marks_head))))
 
     pub head_live : head_good l (put_live h g b) ≡ head_good l h
     unfolding head_good capabilities_of put_live

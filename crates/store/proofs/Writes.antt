@@ -31,7 +31,7 @@ pub pair_put : (l : Layout) → Sound l → l.width ≡ 16 → (s t : List ℕ) 
 unfolding put_word
 pair_put l h two s t i w long k b e =
     let a : 8 * l.words_at + 16 * i ≡ 8 * (l.words_at + 2 * i) = omega arith in
-    let r : l.words_at + 2 * i + 2 ≤ length s = omega (arith, pair_inside l h s two i k, h.guests-fit, h.whole) in
+    let r : l.words_at + 2 * i + 2 ≤ length s = omega (arith, pair_inside l h s two i k, h.guests_fit, h.whole) in
     e ∙ sym (ap (λ (n : ℕ). put_bits s (8 * l.words_at + n * i) n w) two ∙ ap (λ (n : ℕ). put_bits s n 16 w) a
     ∙ put_bytes s (l.words_at + 2 * i) 2 w r (λ j m. (b (l.words_at + 2 * i + j)).fits))
 

@@ -1,5 +1,7 @@
 // The lent store: its layouts, and where a guest's and a slot's values start. `header`, `slots`, `formed` and `filter` read its header,
 // `fields`, `update` and `removal` change it, `conversion` writes it as one of another size; what they all mean is defined here.
+#![tactic(auto)]
+
 mod conversion;
 mod fields;
 mod filter;
@@ -22,7 +24,7 @@ pub use update::{with_guest, with_vcpu};
 
 // Numbers of guests and slots, and where slot words, taken marks, guests' values and slots' values start. `zeros` is how many zero bits
 // follow the live bits, `ids` how many guest ids a slot word of `width` bits can name.
-#[derive(Drop)]
+#[derive(Clone, Copy)]
 pub struct Layout {
     pub guests: usize,
     pub zeros: usize,

@@ -97,10 +97,10 @@ module _ (p : ℕ → Bool) (n : ℕ) where
 
 module _ (l : Layout) (so : Sound l) (p : ℕ → Bool) (a m : ℕ) (e : m ≡ mask_of p (l.slots - a) a) (h : 0 < a) (k : a ≤ l.slots) where
   pub mask_doubled : 2 * m < 2 ^ 64
-  mask_doubled = omega (arith, mask_fits p l.slots a m e h k so.few-slots)
+  mask_doubled = omega (arith, mask_fits p l.slots a m e h k so.few_slots)
 
   pub mask_added : (b : ℕ) → b ≤ 1 → 2 * m + b < 2 ^ 64
-  mask_added b f = omega (arith, mask_fits p l.slots a m e h k so.few-slots)
+  mask_added b f = omega (arith, mask_fits p l.slots a m e h k so.few_slots)
 
 -- ---- the bytes that hold elements
 input_at : (s : List ℕ) (base : ℕ) → input_size s base ≡ be s (base + 8) 8

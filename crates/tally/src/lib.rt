@@ -1,6 +1,8 @@
 // Request L5: summary records, one for each slot, and the layer above the calls that updates them. `counters` changes one record, `counting`
 // counts the elements of a buffer, `slots` tells which records a call touches, `changes` what it makes of them; `layer` has all of it. The
 // calls themselves know nothing of records.
+#![tactic(auto)]
+
 mod changes;
 mod counters;
 mod counting;
@@ -12,7 +14,7 @@ pub use layer::tally;
 
 // What is counted of the vCPU in a slot. A new one's exit reason is 4095.
 #[repr(C)]
-#[derive(Drop)]
+#[derive(Clone, Copy)]
 pub struct Summary {
     pub runs: u32,
     pub elements: u32,
@@ -21,7 +23,7 @@ pub struct Summary {
 }
 
 // What a call makes of a record that it touches. `Set` and `Ran` hold how many elements were set, `Ran` also the exit reason.
-#[derive(Drop)]
+#[derive(Clone, Copy)]
 pub enum Change {
     Nothing,
     Renewed,
@@ -31,14 +33,14 @@ pub enum Change {
 }
 
 // The slots that a call touches: bit i of `slots`, from the least significant on, is slot `first + i`.
-#[derive(Drop)]
+#[derive(Clone, Copy)]
 pub struct Touched {
     pub first: usize,
     pub slots: u64,
 }
 
 // What a call tells, and what is to be done with which records.
-#[derive(Drop)]
+#[derive(Clone, Copy)]
 pub struct Served {
     pub told: Registers,
     pub first: usize,

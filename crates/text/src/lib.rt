@@ -1,4 +1,6 @@
 // Text appended to a lent buffer: each function writes at a place and returns the place after.
+#![tactic(auto)]
+
 ghost use Rattle.std.specs.Prelude.{◌≡◌, ◌++◌, ◌+◌, ◌^◌, ◌≤◌, ◌<◌, length};
 ghost use Rattle.text.specs.Text.{Printed, ascii, digit, shown, decimal, hex4};
 

@@ -1,5 +1,7 @@
 // An accepted guest state buffer's values, moved to a guest's or a slot's values, which start at `base` of the store.
 // Apart from the calls, since set and run share it. `filling` moves them the other way; what both mean is defined here.
+#![tactic(auto)]
+
 mod filling;
 
 ghost use Rattle.std.specs.Prelude.{◌≡◌, ◌+◌, ◌≤◌, length};
@@ -15,7 +17,7 @@ pub use filling::fill;
 use octets::{copy, get16, get32};
 
 // What became of an element: it was stored, and the next starts here; or it is no register, and nothing was done.
-#[derive(Drop)]
+#[derive(Clone, Copy)]
 pub enum Step {
     Next(usize),
     Other,

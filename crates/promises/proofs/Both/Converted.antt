@@ -47,7 +47,7 @@ module _ (l m : Layout) (so : Sound l) (so' : Sound m) (within : Within l m) (s 
   c = put (fresh m) 0 (bytes_at s 0 8)
 
   eight : length (bytes_at s 0 8) ≡ 8
-  eight = length_bytes_at s 0 8 (omega (arith, long, so.head, so.words, so.guests-fit, so.whole))
+  eight = length_bytes_at s 0 8 (omega (arith, long, so.head, so.words, so.guests_fit, so.whole))
 
   fresh_long : length (fresh m) ≡ m.size
   unfolding fresh
@@ -60,7 +60,7 @@ module _ (l m : Layout) (so : Sound l) (so' : Sound m) (within : Within l m) (s 
   unfolding capabilities_of header
   c_caps =
       be_part c 0 m.guests_at 0 8 (omega (arith, so'.head, so'.words))
-      ∙ be_agree c 0 s 0 8 (λ k q. get_or_put_same (fresh m) 0 (bytes_at s 0 8) k (omega (arith, eight, fresh_long, so'.head, so'.words, so'.guests-fit, so'.whole)) (omega (arith, eight)) ∙ get_or_bytes_at s 0 8 k q)
+      ∙ be_agree c 0 s 0 8 (λ k q. get_or_put_same (fresh m) 0 (bytes_at s 0 8) k (omega (arith, eight, fresh_long, so'.head, so'.words, so'.guests_fit, so'.whole)) (omega (arith, eight)) ∙ get_or_bytes_at s 0 8 k q)
       ∙ sym (be_part s 0 l.guests_at 0 8 (omega (arith, so.head, so.words)))
 
   -- every bit behind them is zero
@@ -98,9 +98,9 @@ module _ (l m : Layout) (so : Sound l) (so' : Sound m) (within : Within l m) (s 
     edited = edited_none m c c_long;
     spare = bits_none (header m c) (64 + m.guests) m.zeros (λ k q. c_bit (64 + m.guests + k) (omega arith) (omega (arith, so'.head, so'.words)));
     lives = λ g k. dead_zero m (header m c) g (omega arith) ∙ sym (dead_zero l h g (omega arith));
-    dead = λ g k. dead_bit (header m c) g (λ r. c_bit (63 + g) (omega arith) (omega (arith, so'.head, so'.words, so'.some-zeros))) (omega arith);
+    dead = λ g k. dead_bit (header m c) g (λ r. c_bit (63 + g) (omega arith) (omega (arith, so'.head, so'.words, so'.some_zeros))) (omega arith);
     marks = λ j q. absurd (not-suc-le-zero q);
-    unmarked = λ j q k. ap (λ (x : ℕ). eqb x 1) (c_bit (8 * m.taken_at + j) (omega (arith, so'.marks-head)) (omega (arith, so'.marks)));
+    unmarked = λ j q k. ap (λ (x : ℕ). eqb x 1) (c_bit (8 * m.taken_at + j) (omega (arith, so'.marks_head)) (omega (arith, so'.marks)));
     words = λ j q. absurd (not-suc-le-zero q);
     unused = λ j q k. bits_none (header m c) (word_at m j) m.width
         (λ i r. c_bit (word_at m j + i) (omega (arith, so'.head)) (omega (arith, step m.width j m.slots k, so'.words)));
@@ -237,7 +237,7 @@ module _ (l m : Layout) (so : Sound l) (so' : Sound m) (within : Within l m) (s 
   t₁ = put t₀ m.guests_at gs
 
   gs_long : length gs ≡ guest_bytes * l.guests
-  gs_long = length_bytes_at s l.guests_at (guest_bytes * l.guests) (omega (arith, long, so.guests-fit, so.whole))
+  gs_long = length_bytes_at s l.guests_at (guest_bytes * l.guests) (omega (arith, long, so.guests_fit, so.whole))
 
   ss_long : length ss ≡ slot_bytes * l.slots
   ss_long = length_bytes_at s l.slots_at (slot_bytes * l.slots) (omega (arith, long, so.whole))
@@ -247,7 +247,7 @@ module _ (l m : Layout) (so : Sound l) (so' : Sound m) (within : Within l m) (s 
 
   t_header : header m (converted l m s) ≡ header m t₀
   unfolding converted
-  t_header = header_values m so' t₁ m.slots_at ss (omega (arith, so'.guests-fit)) ∙ header_values m so' t₀ m.guests_at gs (omega arith)
+  t_header = header_values m so' t₁ m.slots_at ss (omega (arith, so'.guests_fit)) ∙ header_values m so' t₀ m.guests_at gs (omega arith)
 
   t_long : length (converted l m s) ≡ m.size
   unfolding converted
@@ -256,8 +256,8 @@ module _ (l m : Layout) (so : Sound l) (so' : Sound m) (within : Within l m) (s 
   t_values : (wide : Bool) (i : ℕ) → Inside l wide i → values_in m (converted l m s) wide i ≡ values_in l s wide i
   unfolding converted
   t_values true g p =
-      read_other t₁ m.slots_at ss (guest_at m g) guest_bytes (right (omega (arith, p.0, p.1, within.guests, so'.guests-fit)))
-      ∙ read_part t₀ m.guests_at gs (guest_bytes * (g - 1)) guest_bytes (omega (arith, gs_long, head.edited.long, within.guests, so'.guests-fit, so'.whole)) (omega (arith, gs_long, p.0, p.1))
+      read_other t₁ m.slots_at ss (guest_at m g) guest_bytes (right (omega (arith, p.0, p.1, within.guests, so'.guests_fit)))
+      ∙ read_part t₀ m.guests_at gs (guest_bytes * (g - 1)) guest_bytes (omega (arith, gs_long, head.edited.long, within.guests, so'.guests_fit, so'.whole)) (omega (arith, gs_long, p.0, p.1))
       ∙ part_of_part s l.guests_at (guest_bytes * l.guests) (guest_bytes * (g - 1)) guest_bytes (omega (arith, p.0, p.1))
   t_values false j p =
       read_part t₁ m.slots_at ss (slot_bytes * j) slot_bytes (omega (arith, ss_long, t₁_long, within.slots, so'.whole)) (omega (arith, ss_long, p))
@@ -295,11 +295,11 @@ module _ (l m : Layout) (so : Sound l) (so' : Sound m) (within : Within l m) (s 
   pub converted_else : (wide : Bool) (i : ℕ) → Inside m wide i → (Inside l wide i → ⊥) → values_in m (converted l m s) wide i ≡ zeros (room_of wide)
   unfolding converted fresh
   converted_else true g p n =
-      read_other t₁ m.slots_at ss (guest_at m g) guest_bytes (right (omega (arith, p.0, p.1, so'.guests-fit)))
+      read_other t₁ m.slots_at ss (guest_at m g) guest_bytes (right (omega (arith, p.0, p.1, so'.guests_fit)))
       ∙ read_other t₀ m.guests_at gs (guest_at m g) guest_bytes (left (omega (arith, gs_long, above)))
-      ∙ head.edited.behind (guest_at m g) guest_bytes (omega arith) (omega (arith, p.0, p.1, so'.guests-fit, so'.whole))
+      ∙ head.edited.behind (guest_at m g) guest_bytes (omega arith) (omega (arith, p.0, p.1, so'.guests_fit, so'.whole))
       ∙ read_other (zeros m.size) 0 (bytes_at s 0 8) (guest_at m g) guest_bytes (left (omega (arith, eight, so'.head, so'.words)))
-      ∙ zeros_part m.size (guest_at m g) guest_bytes (omega (arith, p.0, p.1, so'.guests-fit, so'.whole))
+      ∙ zeros_part m.size (guest_at m g) guest_bytes (omega (arith, p.0, p.1, so'.guests_fit, so'.whole))
     where
       above : l.guests < g
       above = go (dec_lt l.guests g)
@@ -309,9 +309,9 @@ module _ (l m : Layout) (so : Sound l) (so' : Sound m) (within : Within l m) (s 
           go (no k) = absurd (n (p.0, omega arith))
   converted_else false j p n =
       read_other t₁ m.slots_at ss (slot_at m j) slot_bytes (left (omega (arith, ss_long, above)))
-      ∙ read_other t₀ m.guests_at gs (slot_at m j) slot_bytes (left (omega (arith, gs_long, within.guests, so'.guests-fit)))
-      ∙ head.edited.behind (slot_at m j) slot_bytes (omega (arith, so'.guests-fit)) (omega (arith, p, so'.whole))
-      ∙ read_other (zeros m.size) 0 (bytes_at s 0 8) (slot_at m j) slot_bytes (left (omega (arith, eight, so'.head, so'.words, so'.guests-fit)))
+      ∙ read_other t₀ m.guests_at gs (slot_at m j) slot_bytes (left (omega (arith, gs_long, within.guests, so'.guests_fit)))
+      ∙ head.edited.behind (slot_at m j) slot_bytes (omega (arith, so'.guests_fit)) (omega (arith, p, so'.whole))
+      ∙ read_other (zeros m.size) 0 (bytes_at s 0 8) (slot_at m j) slot_bytes (left (omega (arith, eight, so'.head, so'.words, so'.guests_fit)))
       ∙ zeros_part m.size (slot_at m j) slot_bytes (omega (arith, p, so'.whole))
     where
       above : l.slots ≤ j

@@ -37,14 +37,14 @@ inside_more l m w false i h = omega (arith, h, w.slots)
 module _ (l : Layout) (so : Sound l) where
   pub place_from : (wide : Bool) (i : ℕ) → l.guests_at ≤ place_of l wide i
   place_from true i = omega arith
-  place_from false i = omega (arith, so.guests-fit)
+  place_from false i = omega (arith, so.guests_fit)
 
   pub place_room : (wide : Bool) (i : ℕ) → Inside l wide i → place_of l wide i + room_of wide ≤ l.size
-  place_room true i h = omega (arith, h.0, h.1, so.guests-fit, so.whole)
+  place_room true i h = omega (arith, h.0, h.1, so.guests_fit, so.whole)
   place_room false i h = omega (arith, h, so.whole)
 
   pub places_apart : (wide : Bool) (i : ℕ) (x : Bool) (k : ℕ) → Inside l wide i → Inside l x k → Other wide i x k → Clear (place_of l wide i) (room_of wide) (place_of l x k) (room_of x)
-  places_apart true i false k h h' n = left (omega (arith, h.0, h.1, so.guests-fit))
-  places_apart false i true k h h' n = right (omega (arith, h'.0, h'.1, so.guests-fit))
+  places_apart true i false k h h' n = left (omega (arith, h.0, h.1, so.guests_fit))
+  places_apart false i true k h h' n = right (omega (arith, h'.0, h'.1, so.guests_fit))
   places_apart true i true k h h' n = guests_apart l i k h.0 h'.0 (n refl)
   places_apart false i false k h h' n = slots_apart l i k (n refl)

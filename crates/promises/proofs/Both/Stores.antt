@@ -104,7 +104,7 @@ module _ (l m : Layout) (so : Sound l) (so' : Sound m) (within : Within l m) (s 
     vcpu_caps : (n : Layout) → Sound n → (x : List ℕ) → length x ≡ n.size → j < n.slots → capabilities_of (header n (with_vcpu n x j g v)) ≡ capabilities_of (header n x)
     unfolding with_vcpu
     vcpu_caps n sn x e h =
-        ap capabilities_of (header_values n sn (put_slot n x j (word_of n g v)) (slot_at n j) (zeros slot_bytes) (omega (arith, sn.guests-fit))) ∙ (slot_edited n sn x e j (word_of n g v) h).capabilities
+        ap capabilities_of (header_values n sn (put_slot n x j (word_of n g v)) (slot_at n j) (zeros slot_bytes) (omega (arith, sn.guests_fit))) ∙ (slot_edited n sn x e j (word_of n g v) h).capabilities
 
     vcpu_values : Values l m (with_vcpu l s j g v) (with_vcpu m t j g v)
     unfolding with_vcpu

@@ -35,7 +35,7 @@ enum-known-h c = search rules
 play-requires : tie.Need-play-requires invariant-loop decreases-loop
 play-requires c κs =
     let w = there _ _ _ _ c.before.before.before.before.before.before.read_head.ensures c.before.before.before.before.h.given.1 in
-    (w.is, w.inside, omega (arith, w.dataFits), search rules)
+    (w.is, w.inside, omega (arith, w.data_fits), search rules)
 
 push-record-requires : tie.Need-push-record-requires invariant-loop decreases-loop
 push-record-requires c κs =

@@ -1,0 +1,42 @@
+-- Each use has its clause of `allows`. Assumes nothing.
+use Rattle.rules.specs.Rules.{allows}
+use Rattle.rules.specs.declared.Usage.{Usage}
+use mathlib.Core.Bool.{not, ◌&&◌}
+use mathlib.Core.Path.{sym, ap, ap₂, ◌∙◌}
+use Rattle.rules.proofs.allowed.Goals as goal
+
+pub returns-in-GuestGet : goal.returns-in-GuestGet
+unfolding allows
+returns-in-GuestGet c =
+    let a = c.args in
+    ap₂ ◌&&◌ c.in_guest.ensures c.may_read.ensures
+
+pub returns-in-GuestSet : goal.returns-in-GuestSet
+unfolding allows
+returns-in-GuestSet c =
+    let a = c.args in
+    ap₂ ◌&&◌ c.in_guest-in-GuestSet.ensures c.may_write.ensures
+
+pub returns-in-ThreadGet : goal.returns-in-ThreadGet
+unfolding allows
+returns-in-ThreadGet c =
+    let a = c.args in
+    ap₂ ◌&&◌ c.in_thread.ensures c.may_read-in-ThreadGet.ensures
+
+pub returns-in-ThreadSet : goal.returns-in-ThreadSet
+unfolding allows
+returns-in-ThreadSet c =
+    let a = c.args in
+    ap₂ ◌&&◌ c.in_thread-in-ThreadSet.ensures c.may_write-in-ThreadSet.ensures
+
+pub returns-in-RunInput : goal.returns-in-RunInput
+unfolding allows
+returns-in-RunInput c =
+    let a = c.args in
+    ap₂ ◌&&◌ (ap₂ ◌&&◌ c.in_thread-in-RunInput.ensures c.may_write-in-RunInput.ensures) (ap not c.within.ensures)
+
+pub returns-in-Effect : goal.returns-in-Effect
+unfolding allows
+returns-in-Effect c =
+    let a = c.args in
+    ap₂ ◌&&◌ c.in_thread-in-Effect.ensures (ap not c.within-in-Effect.ensures)
