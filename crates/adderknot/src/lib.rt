@@ -283,7 +283,7 @@ pub extern "C" fn adk_lookup(buffer: &[u8], id: u16) -> Found
 
 #[unsafe(no_mangle)]
 pub extern "C" fn adk_join(first: &[u8], second: &[u8], res: &mut [u8]) -> Registers
-    ensures* { λ r. ⌜ ◌≡◌ {A = Wrote} (record { registers = r; result = res.new }) (writes (join_into first.now second.now res.old)) ⌝ }
+    ensures { ◌≡◌ {A = Wrote} (record { registers = result; result = res.new }) (writes (join_into first.now second.now res.old)) }
 {
     registers_of(Call::Join, gsb::join(first, second, res))
 }
@@ -299,7 +299,7 @@ pub extern "C" fn adk_write_record(
     data: &[u8],
     effect: &[u8],
 ) -> Registers
-    ensures* { λ r. ⌜ ◌≡◌ {A = Wrote} (record { registers = r; result = bytes.new }) (writes_record (write_record bytes.old (record { kind = kind; flags = flags; guest = guest; number = number; exit = exit_reason; «data» = «data».now; effect = effect.now }))) ⌝ }
+    ensures { ◌≡◌ {A = Wrote} (record { registers = result; result = bytes.new }) (writes_record (write_record bytes.old (record { kind = kind; flags = flags; guest = guest; number = number; exit = exit_reason; «data» = «data».now; effect = effect.now }))) }
 {
     registers_of(
         Call::WriteRecord,

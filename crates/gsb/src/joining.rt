@@ -38,7 +38,7 @@ fn end_of(b: &[u8]) -> Extent
 // The counted elements of both end at m and at n.
 fn join_at(first: &[u8], m: usize, second: &[u8], n: usize, res: &mut [u8]) -> Answer
     requires { Measured first.now m × Measured second.now n }
-    ensures* { λ r. ⌜ ◌≡◌ {A = Joining} (record { answer = r; result = res.new }) (settled (joined first.now second.now) res.old) ⌝ }
+    ensures { ◌≡◌ {A = Joining} (record { answer = result; result = res.new }) (settled (joined first.now second.now) res.old) }
 {
     let len = m + n - 4;
     if 65536 < len {
@@ -54,7 +54,7 @@ fn join_at(first: &[u8], m: usize, second: &[u8], n: usize, res: &mut [u8]) -> A
 }
 
 pub fn join(first: &[u8], second: &[u8], res: &mut [u8]) -> Answer
-    ensures* { λ r. ⌜ ◌≡◌ {A = Joining} (record { answer = r; result = res.new }) (join_into first.now second.now res.old) ⌝ }
+    ensures { ◌≡◌ {A = Joining} (record { answer = result; result = res.new }) (join_into first.now second.now res.old) }
 {
     if bad_length(first) {
         return refusal(Fault::Length);

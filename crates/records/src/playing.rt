@@ -200,7 +200,7 @@ fn replay_window(
     output: &mut [u8],
 ) -> Step
     requires { Ready (length window.old) filled number offset (length text.old) × (131071 ≤ length «data».old) × (65536 ≤ length output.old) }
-    ensures* fact { λ r. ⌜ ◌≡◌ {A = WindowOutcome} (record { result = Replayed.Done r; store = store.new; window = window.new; text = text.new }) (windowed ended offset (bytes_at window.old 0 filled) window.old text.old (played_all (layout_of store.old) store.old (bytes_at window.old 0 filled) number)) ⌝ }
+    ensures fact { ◌≡◌ {A = WindowOutcome} (record { result = Replayed.Done result; store = store.new; window = window.new; text = text.new }) (windowed ended offset (bytes_at window.old 0 filled) window.old text.old (played_all (layout_of store.old) store.old (bytes_at window.old 0 filled) number)) }
     ensures kept_in_bounds { (result.kept ≤ length window.new) × (result.written ≤ length text.new) }
 {
     let s = play_all(store, &window[..filled], number, data, output, text);
@@ -228,7 +228,7 @@ pub fn replay(
     offset: u64,
     text: &mut [u8],
 ) -> Replayed
-    ensures* fact { λ r. ⌜ ◌≡◌ {A = WindowOutcome} (record { result = r; store = store.new; window = window.new; text = text.new }) (replayed (layout_of store.old) store.old window.old filled ended number offset text.old) ⌝ }
+    ensures fact { ◌≡◌ {A = WindowOutcome} (record { result = result; store = store.new; window = window.new; text = text.new }) (replayed (layout_of store.old) store.old window.old filled ended number offset text.old) }
     ensures within { Within result (length window.new) (length text.new) }
 {
     if !is_ready(window.len(), filled, number, offset, text.len()) {

@@ -21,7 +21,7 @@ pub enum Rendered {
 pub const ROOM: usize = 442496;
 
 pub fn render(b: &[u8], text: &mut [u8]) -> Rendered
-    ensures* fact { λ r. ⌜ ◌≡◌ {A = RenderOutcome} (record { result = r; text = text.new }) (rendered b.now text.old) ⌝ }
+    ensures fact { ◌≡◌ {A = RenderOutcome} (record { result = result; text = text.new }) (rendered b.now text.old) }
     ensures within { Within result (length text.new) }
 {
     if text.len() < ROOM {

@@ -17,3 +17,4 @@ pub returns-in-Listed : goal.returns-in-Listed
 unfolding permits
 returns-in-Listed c =
     ap₂ ◌&&◌ c.allowed.ensures c.is_offered.ensures
+    ∙ ap (permits c.args.k c.args.id) (sym c.in-Listed.is)

@@ -20,7 +20,7 @@ pub returns-in_default-judge_part : goal.returns-in_default-judge_part
 returns-in_default-judge_part c = search (rules, walk_off 167 2 1, walk_on_lem 166 1 3)
 
 pub judge_part-requires-3 : goal.judge_part-requires-3
-judge_part-requires-3 c = let h : c.in-Next-judge_part.at ≤ length c.args.b.now = search (rules, walk_within 166 1) in (part_i, search (rules, presence_low 3 1), search (rules, walk_within 167 2))
+judge_part-requires-3 c = let h : c.in-Next.at ≤ length c.args.b.now = search (rules, walk_within 166 1) in (part_i, search (rules, presence_low 3 1), search (rules, walk_within 167 2))
 
 pub returns : goal.returns
 returns c = search (rules, walk_on_lem 167 2 1, walk_on_lem 166 1 3)

@@ -20,7 +20,7 @@ pub returns-in_default-judge_part : goal.returns-in_default-judge_part
 returns-in_default-judge_part c = search (rules, walk_off 87 15 10, walk_on_lem 48 39 25)
 
 pub judge_part-requires-3 : goal.judge_part-requires-3
-judge_part-requires-3 c = let h : c.in-Next-judge_part.at ≤ length c.args.b.now = search (rules, walk_within 48 39) in (part_e, search (rules, presence_low 54 10), search (rules, walk_within 87 15))
+judge_part-requires-3 c = let h : c.in-Next.at ≤ length c.args.b.now = search (rules, walk_within 48 39) in (part_e, search (rules, presence_low 54 10), search (rules, walk_within 87 15))
 
 pub returns : goal.returns
 returns c = search (rules, walk_on_lem 87 15 10, walk_on_lem 48 39 25)
