@@ -1,0 +1,23 @@
+use Rattle.store.proofs.Sizes.{sized_sound}
+use borrow.Author.Rules.{rules}
+use Rattle.admission.proofs.FirstTests.{good_long}
+use Rattle.admission.proofs.Targets.{slot_malformed, slot_dead, slot_absent, slot_found, slot_within}
+use Rattle.admission.proofs.slot_with.Goals as goal
+
+pub returns-then-not-well_formed : goal.returns-then-not-well_formed
+returns-then-not-well_formed c = (search (rules, slot_malformed), tt)
+
+pub is_live-requires : goal.is_live-requires
+is_live-requires c = (search (rules, sized_sound), search (rules, good_long))
+
+pub returns-then-not-is_live : goal.returns-then-not-is_live
+returns-then-not-is_live c = (search (rules, slot_dead), tt)
+
+pub slot_of-slot-requires : goal.slot_of-slot-requires
+slot_of-slot-requires c = (search rules, search (rules, good_long))
+
+pub returns-then-l-slot : goal.returns-then-l-slot
+returns-then-l-slot c = (search (rules, slot_absent), tt)
+
+pub returns : goal.returns
+returns c = (search (rules, slot_found), (search (rules, good_long), search rules, search (rules, slot_within)))
