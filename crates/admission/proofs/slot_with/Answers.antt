@@ -5,19 +5,19 @@ use Rattle.admission.proofs.Targets.{slot_malformed, slot_dead, slot_absent, slo
 use Rattle.admission.proofs.slot_with.Goals as goal
 
 pub returns-then-not-well_formed : goal.returns-then-not-well_formed
-returns-then-not-well_formed c = (search (rules, slot_malformed), tt)
+returns-then-not-well_formed c = record { value = search (rules, slot_malformed); within = tt }
 
 pub is_live-requires : goal.is_live-requires
 is_live-requires c = (search (rules, sized_sound), search (rules, good_long))
 
 pub returns-then-not-is_live : goal.returns-then-not-is_live
-returns-then-not-is_live c = (search (rules, slot_dead), tt)
+returns-then-not-is_live c = record { value = search (rules, slot_dead); within = tt }
 
 pub slot_of-slot-requires : goal.slot_of-slot-requires
 slot_of-slot-requires c = (search rules, search (rules, good_long))
 
 pub returns-then-l-slot : goal.returns-then-l-slot
-returns-then-l-slot c = (search (rules, slot_absent), tt)
+returns-then-l-slot c = record { value = search (rules, slot_absent); within = tt }
 
 pub returns : goal.returns
-returns c = (search (rules, slot_found), (search (rules, good_long), search rules, search (rules, slot_within)))
+returns c = record { value = search (rules, slot_found); within = (search (rules, good_long), search rules, search (rules, slot_within)) }

@@ -7,4 +7,4 @@ pub target_with-requires : goal.target_with-requires
 target_with-requires c = (search rules, search (rules, formed_sized))
 
 pub returns : goal.returns
-returns c = (search (rules, target_sized), search (rules, held_sized))
+returns c = record { value = search (rules, target_sized); held = search (rules, held_sized) }

@@ -4,4 +4,4 @@ use borrow.Author.Rules.{rules}
 use Rattle.admission.proofs.vcpu_slot.Goals as goal
 
 pub returns : goal.returns
-returns c = (search (rules, slot_sized), search (rules, within_sized))
+returns c = record { value = search (rules, slot_sized); within = search (rules, within_sized) }

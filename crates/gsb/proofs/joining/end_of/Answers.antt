@@ -17,13 +17,13 @@ returns-in_default c = (search (rules, extent_cut), tt)
 
 pub loop-i-preserved : goal.loop-i-preserved
 loop-i-preserved c =
-    let p = framed_inside _ _ _ _ c.frame_by_size.ensures c.next-1.given.1 in
+    let p = framed_inside _ _ _ _ c.frame_by_size.ensures c.in-Good.is in
     let l = c.loop-i in (
       search rules,
       omega (arith, l.invariant.1, p.0),
       omega (arith, p.0, p.1),
       p.0 ∙ offset_next _ _ _ l.invariant.3,
-      turn_good _ _ _ _ _ _ _ l.invariant.4 c.loop-i-test.true c.frame_by_size.ensures c.next-1.given.1,
+      turn_good _ _ _ _ _ _ _ l.invariant.4 c.loop-i-test.true c.frame_by_size.ensures c.in-Good.is,
     )
 
 pub returns : goal.returns

@@ -19,8 +19,8 @@ end_of-b-requires c = long_enough c.args.second.now _ c.bad_length-2.ensures c.i
 pub join_at-requires : goal.join_at-requires
 join_at-requires c =
     (
-      measured _ _ _ _ c.bad_length.ensures c.if-bad_length.false c.end_of-a.ensures c.a-in-Ends-1.given.1,
-      measured _ _ _ _ c.bad_length-2.ensures c.if-bad_length-2.false c.end_of-b.ensures c.b-in-Ends-b-1.given.1,
+      measured _ _ _ _ c.bad_length.ensures c.if-bad_length.false c.end_of-a.ensures c.in-Ends.is,
+      measured _ _ _ _ c.bad_length-2.ensures c.if-bad_length-2.false c.end_of-b.ensures c.in-Ends-b.is,
     )
 
 pub returns-in-Cut : goal.returns-in-Cut

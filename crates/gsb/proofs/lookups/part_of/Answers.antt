@@ -7,16 +7,16 @@ use borrow.Author.Rules.{rules}
 use Rattle.gsb.proofs.lookups.part_of.Goals as goal
 
 pub overflow_add-at : goal.overflow_add-at
-overflow_add-at c = omega (arith, inside_at _ _ _ c.requires.1 c.last-1.given.1)
+overflow_add-at c = omega (arith, inside_at _ _ _ c.requires.1 c.in-At.is)
 
 pub get16-len-requires : goal.get16-len-requires
-get16-len-requires c = omega (arith, inside_at _ _ _ c.requires.1 c.last-1.given.1)
+get16-len-requires c = omega (arith, inside_at _ _ _ c.requires.1 c.in-At.is)
 
 pub overflow_add-result : goal.overflow_add-result
-overflow_add-result c = omega (arith, inside_at _ _ _ c.requires.1 c.last-1.given.1)
+overflow_add-result c = omega (arith, inside_at _ _ _ c.requires.1 c.in-At.is)
 
 pub returns-in-Nowhere : goal.returns-in-Nowhere
-returns-in-Nowhere c = (search (rules, part_nowhere), omega (arith, ap (λ (f : Found). f.at) c.not_found.ensures, ap (λ (f : Found). f.len) c.not_found.ensures))
+returns-in-Nowhere c = record { value = search (rules, part_nowhere); len_in_bounds = omega (arith, ap (λ (f : Found). f.at) c.not_found.ensures, ap (λ (f : Found). f.len) c.not_found.ensures) }
 
 pub returns-in-At : goal.returns-in-At
-returns-in-At c = (search (rules, part_at), omega (arith, inside_at _ _ _ c.requires.1 c.last-1.given.1))
+returns-in-At c = record { value = search (rules, part_at); len_in_bounds = omega (arith, inside_at _ _ _ c.requires.1 c.in-At.is) }
