@@ -1,0 +1,13 @@
+-- What was read of the element is what the definition reads.
+use Rattle.transfer.proofs.Moving.{empty_next, empty_stored, ready_moves, ready_inside, stored_element}
+use borrow.Author.Rules.{rules}
+use Rattle.transfer.proofs.store_other.Goals as goal
+
+pub returns-then-get32-eq0 : goal.returns-then-get32-eq0
+returns-then-get32-eq0 c = (search (rules, empty_next), search (rules, empty_stored))
+
+pub put_as-requires : goal.put_as-requires
+put_as-requires c = (search (rules, ready_moves), search (rules, ready_inside))
+
+pub returns : goal.returns
+returns c = (search rules, search (rules, stored_element))
