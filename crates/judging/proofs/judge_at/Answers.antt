@@ -12,7 +12,7 @@ pub returns-then-i-ge7 : goal.returns-then-i-ge7
 returns-then-i-ge7 c = search (rules, at_exit)
 
 pub judge_elements-requires : goal.judge_elements-requires
-judge_elements-requires c = (search rules, (search (rules, good_row), search (rules, long_enough)))
+judge_elements-requires c = record { slot_bytes_in_bounds = search rules; good_row = search (rules, good_row); in_bounds = search (rules, long_enough) }
 
 pub returns : goal.returns
 returns c = search (rules, at_elements)

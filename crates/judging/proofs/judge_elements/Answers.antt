@@ -8,7 +8,7 @@ pub walk-init : goal.walk-init
 walk-init c = (search rules, search (rules, offset_start), search rules, search (rules, marks_begin), search (rules, walk_begins))
 
 pub compare-step-requires : goal.compare-step-requires
-compare-step-requires c = (search rules, (search rules, search (rules, reached)))
+compare-step-requires c = record { slot_bytes_in_bounds = search rules; good_row = search rules; reached = search (rules, reached) }
 
 pub walk-preserved : goal.walk-preserved
 walk-preserved c = (search rules, search (rules, turn_here), search (rules, turn_inside), search (rules, turn_marked), search (rules, turn_walked))

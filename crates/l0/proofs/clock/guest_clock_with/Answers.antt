@@ -1,0 +1,24 @@
+-- By how far the tests came: the laws `clock-..` of Answers.
+use Rattle.std.proofs.Common.{arith, rules}
+use Rattle.store.proofs.Sizes.{sized_sound}
+use Rattle.admission.proofs.FirstTests.{good_long, live_few, live_some}
+use Rattle.l0.proofs.Answers.{clock_store, clock_dead, clock_told}
+use Rattle.l0.proofs.clock.guest_clock_with.Goals as goal
+
+pub returns-then-not-well_formed : goal.returns-then-not-well_formed
+returns-then-not-well_formed c = search (rules, clock_store)
+
+pub is_live-requires : goal.is_live-requires
+is_live-requires c = (search (rules, sized_sound), search (rules, good_long))
+
+pub returns-then-not-is_live : goal.returns-then-not-is_live
+returns-then-not-is_live c = search (rules, clock_dead)
+
+pub guest_at-requires : goal.guest_at-requires
+guest_at-requires c = (search (rules, sized_sound), search (rules, live_some), search (rules, live_few))
+
+pub get64-offset-requires : goal.get64-offset-requires
+get64-offset-requires c = let c = sized_sound _ _ c.before.before.before.before.before.before.requires in omega (arith, c.guest-at.ensures.2, c.whole, good_long _ _ _ c.before.before.before.before.well-formed-2.ensures c.before.before.before.if1.false)
+
+pub returns : goal.returns
+returns c = search (rules, clock_told)
