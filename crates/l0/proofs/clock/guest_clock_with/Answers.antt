@@ -3,6 +3,8 @@ use Rattle.std.proofs.Common.{arith, rules}
 use Rattle.store.proofs.Sizes.{sized_sound}
 use Rattle.admission.proofs.FirstTests.{good_long, live_few, live_some}
 use Rattle.l0.proofs.Answers.{clock_store, clock_dead, clock_told}
+use mathlib.Core.Bool.{not}
+use mathlib.Core.Path.{ap}
 use Rattle.l0.proofs.clock.guest_clock_with.Goals as goal
 
 pub returns-then-not-well_formed : goal.returns-then-not-well_formed
@@ -18,7 +20,7 @@ pub guest_at-requires : goal.guest_at-requires
 guest_at-requires c = (search (rules, sized_sound), search (rules, live_some), search (rules, live_few))
 
 pub get64-offset-requires : goal.get64-offset-requires
-get64-offset-requires c = let c = sized_sound _ _ c.before.before.before.before.before.before.requires in omega (arith, c.guest-at.ensures.2, c.whole, good_long _ _ _ c.before.before.before.before.well-formed-2.ensures c.before.before.before.if1.false)
+get64-offset-requires c = let so = sized_sound _ _ c.requires in omega (arith, c.guest_at.ensures.2, so.whole, good_long _ _ _ c.well_formed-2.ensures (ap not c.if-not-well_formed.false))
 
 pub returns : goal.returns
 returns c = search (rules, clock_told)

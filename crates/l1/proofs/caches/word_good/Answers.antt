@@ -5,6 +5,6 @@ use borrow.Author.Rules.{rules}
 use Rattle.l1.proofs.caches.word_good.Goals as goal
 
 pub returns : goal.returns
-returns c = let c = c.shared-slice-known3.given in
-    let a = c.before.before.before.before.args in
-    word_tells _ a.marks.now a.k (search rules) _ c.before.before.inputs-of.ensures (c a.k).fits (c (3 + a.k)).fits
+returns c = let g = c.type_inv.marks in
+    let a = c.args in
+    word_tells _ a.marks.now a.k (search rules) _ c.inputs_of-inputs.ensures (g a.k).fits (g (3 + a.k)).fits

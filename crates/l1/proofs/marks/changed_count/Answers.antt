@@ -16,4 +16,4 @@ overflow_add-result-2 c =
     omega (arith, ones_few m 3 (g 3).fits, ones_few m 4 (g 4).fits, ones_few m 5 (g 5).fits)
 
 pub returns : goal.returns
-returns c = let c = c.shared-slice-known3.given in count_words c.before.before.before.args.m.now (c 3).fits (c 4).fits (c 5).fits
+returns c = let g = c.type_inv.m in count_words c.args.m.now (g 3).fits (g 4).fits (g 5).fits

@@ -21,7 +21,7 @@ pub overflow_mul-result-2 : goal.overflow_mul-result-2
 overflow_mul-result-2 c = search (rules, (word_few c.args.marks.now c.args.k (c.type_inv.marks (3 + c.args.k)).fits).1)
 
 pub overflow_add-result : goal.overflow_add-result
-overflow_add-result c = let c = word_few c.before.before.args.marks.now c.before.before.args.k (c.before.shared-slice-known.given (3 + c.before.before.args.k)).fits in omega (arith, c.0, c.1)
+overflow_add-result c = let f = word_few c.args.marks.now c.args.k (c.type_inv.marks (3 + c.args.k)).fits in omega (arith, f.0, f.1)
 
 pub overflow_cast-result-3 : goal.overflow_cast-result-3
 overflow_cast-result-3 c = search (rules, (word_few c.args.marks.now c.args.k (c.type_inv.marks (3 + c.args.k)).fits).2)
@@ -30,7 +30,7 @@ pub overflow_mul-result-3 : goal.overflow_mul-result-3
 overflow_mul-result-3 c = search (rules, (word_few c.args.marks.now c.args.k (c.type_inv.marks (3 + c.args.k)).fits).2)
 
 pub overflow_add-result-2 : goal.overflow_add-result-2
-overflow_add-result-2 c = let c = word_few c.before.before.args.marks.now c.before.before.args.k (c.before.shared-slice-known.given (3 + c.before.before.args.k)).fits in omega (arith, c.0, c.1, c.2)
+overflow_add-result-2 c = let f = word_few c.args.marks.now c.args.k (c.type_inv.marks (3 + c.args.k)).fits in omega (arith, f.0, f.1, f.2)
 
 pub returns : goal.returns
-returns c = let c = word_few c.before.before.args.marks.now c.before.before.args.k (c.before.shared-slice-known.given (3 + c.before.before.args.k)).fits in (word_bytes_lem c.before.before.args.marks.now c.before.before.args.k (search rules) (c.before.shared-slice-known.given (3 + c.before.before.args.k)).fits, omega (arith, c.0, c.1, c.2))
+returns c = let f = word_few c.args.marks.now c.args.k (c.type_inv.marks (3 + c.args.k)).fits in (word_bytes_lem c.args.marks.now c.args.k (search rules) (c.type_inv.marks (3 + c.args.k)).fits, omega (arith, f.0, f.1, f.2))

@@ -8,7 +8,7 @@ use lib.ListN.{length}
 use Rattle.l1.proofs.flush.output.refresh.Given as goal
 
 abbrev pub invariant-loop-i : goal.invariant-loop-i
-invariant-loop-i l = (l.i ≤ l.count) × (l.at ≡ offset_at l.output l.i) × (length l.values ≡ length l.initial.values) × (length l.marks ≡ length l.initial.marks) × (◌≡◌ {A = Cache} (record { l.values = l.values; l.marks = l.marks }) (kept_upto l.output l.initial.values l.i))
+invariant-loop-i l = (l.i ≤ l.count) × (l.at ≡ offset_at l.output l.i) × (length l.values ≡ length l.initial.values) × (length l.marks ≡ length l.initial.marks) × (◌≡◌ {A = Cache} (record { values = l.values; marks = l.marks }) (kept_upto l.output l.initial.values l.i))
 
 abbrev pub decreases-loop-i : goal.decreases-loop-i
 decreases-loop-i l = l.count - l.i
