@@ -1,5 +1,3 @@
--- The loop's invariant: what the bytes leave is what those from `at` on leave, with the lines before them written. A line takes at most 86 bytes
--- of text and its record at least 31. The measure is what is left of the bytes.
 use Prim.Native.Nat.{◌-◌}
 use native.Mathlib.Omega.{arith}
 use borrow.Author.Rules.{rules}

@@ -19,36 +19,36 @@ overflow_add-next c =
     let a = c.args in
     let r = c.requires.0 in
     let n = first_count a.window.now a.filled r.within in
-    omega (arith, n, r.fits, c.play_all-s.ensures.at_in_bounds.0.0)
+    omega (arith, n, r.fits, c.play_all-s.ensures.at_in_bounds.0)
 
 pub push_end-written-requires : goal.push_end-written-requires
 push_end-written-requires c =
     let a = c.args in
     let r = c.requires.0 in
     let n = first_count a.window.now a.filled r.within in
-    omega (arith, n, r.room, c.play_all-s.ensures.at_in_bounds.0.0, c.play_all-s.ensures.at_in_bounds.0.1)
+    omega (arith, n, r.room, c.play_all-s.ensures.at_in_bounds.0, c.play_all-s.ensures.at_in_bounds.1)
 
 pub overflow_sub-filled : goal.overflow_sub-filled
 overflow_sub-filled c =
     let a = c.args in
     let r = c.requires.0 in
     let n = first_count a.window.now a.filled r.within in
-    omega (arith, n, c.play_all-s.ensures.at_in_bounds.0.0)
+    omega (arith, n, c.play_all-s.ensures.at_in_bounds.0)
 
 pub keep-requires : goal.keep-requires
 keep-requires c =
     let a = c.args in
     let r = c.requires.0 in
     let n = first_count a.window.now a.filled r.within in
-    omega (arith, n, r.within, c.play_all-s.ensures.at_in_bounds.0.0)
+    omega (arith, n, r.within, c.play_all-s.ensures.at_in_bounds.0)
 
 pub overflow_sub-result : goal.overflow_sub-result
 overflow_sub-result c =
     let a = c.args in
     let r = c.requires.0 in
     let n = first_count a.window.now a.filled r.within in
-    omega (arith, n, c.play_all-s.ensures.at_in_bounds.0.0)
+    omega (arith, n, c.play_all-s.ensures.at_in_bounds.0)
 
 pub returns : goal.returns
-returns c = let r = c.requires.0 in record { fact = window_all _ _ _ _ _ _ _ _ _ _ _ _ _ _ _ _ c.play_all-s.ensures.fact r.within c.play_all-s.ensures.at_in_bounds.0.0
+returns c = let r = c.requires.0 in record { fact = window_all _ _ _ _ _ _ _ _ _ _ _ _ _ _ _ _ c.play_all-s.ensures.fact r.within c.play_all-s.ensures.at_in_bounds.0
           c.is_stop-stops.ensures c.push_end-written.ensures.0 c.keep.ensures c.is_open.ensures; kept_in_bounds = (omega (arith, r.within), c.push_end-written.ensures.1) }

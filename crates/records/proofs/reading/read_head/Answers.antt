@@ -24,4 +24,4 @@ pub returns-then-not-fits-2 : goal.returns-then-not-fits-2
 returns-then-not-fits-2 c = search (rules, cut, not-true, not-false)
 
 pub returns : goal.returns
-returns c = accepted _ _ _ _ _ _ _ c.fits-2.ensures c.if-not-fits.false c.head_at-h.ensures c.is_kind.ensures c.if-not-is_kind.false c.padding_at.ensures c.if-padding_at-ne0.false c.fits3.ensures c.if-not-fits-2.false
+returns c = accepted _ _ _ _ _ _ _ c.fits.ensures c.if-not-fits.false c.head_at-h.ensures c.is_kind.ensures c.if-not-is_kind.false c.padding_at.ensures c.if-padding_at-ne0.false c.fits-2.ensures c.if-not-fits-2.false
