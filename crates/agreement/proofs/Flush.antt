@@ -36,6 +36,7 @@ use Rattle.agreement.proofs.Writes.{Latest, none, some, latest, placed, place, b
 fit_latest : (o : Offer) (id : ℕ) (es : List (ℕ × List ℕ)) → Latest o id es → Fit o es
 fit_latest o id [] none = tt
 fit_latest o id (e ∷ []) (some w a b) = (a, b, tt)
+fit_latest o id (e ∷ (_ ∷ _)) l = elim l [ ]
 
 pub due_fit : (o : Offer) (ws : List (ℕ × List ℕ)) → Fit o ws → (n : ℕ) → Fit o (in_order ws n)
 unfolding in_order
@@ -45,6 +46,7 @@ due_fit o ws f (suc n) = fit_append o (in_order ws n) (newest ws (thread_element
 latest_few : (o : Offer) (id : ℕ) (es : List (ℕ × List ℕ)) → Latest o id es → length es ≤ 1
 latest_few o id [] none = omega arith
 latest_few o id (e ∷ []) (some w a b) = omega arith
+latest_few o id (e ∷ (_ ∷ _)) l = elim l [ ]
 
 pub due_few : (o : Offer) (ws : List (ℕ × List ℕ)) → Fit o ws → (n : ℕ) → length (in_order ws n) ≤ n
 unfolding in_order

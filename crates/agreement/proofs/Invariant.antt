@@ -73,6 +73,7 @@ module _ (l : Layout) (so : Sound l) (g v j : ℕ) (below : j < l.slots) (pvr : 
         go : (es : List (ℕ × List ℕ)) → Latest (offer_of pvr) (thread_element e).id es → ((thread_element e).id, cell b.cache (thread_element e).id) ∷ [] ≡ es → is_input (offer_of pvr) (thread_element e).id ≡ true
         go [] none k = let z : ◌≡◌ {A = ℕ} 1 0 = ap length k in absurd (omega arith)
         go (x ∷ []) (some w a c) k = a
+        go (x ∷ (_ ∷ _)) l k = elim l [ ]
 
     pub cache_good : good_cache (offer_of pvr) b.cache ≡ true
     cache_good = well_formed_lem (offer_of pvr) b.cache i.values i.marks (λ e h q. (i.kept e h q, changed_input e h q)) i.past

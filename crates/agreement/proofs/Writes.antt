@@ -117,9 +117,11 @@ module _ (o : Offer) (base : ℕ) (w : ℕ × List ℕ) (h : is_input o w.0 ≡ 
   over : (es : List (ℕ × List ℕ)) → Latest o w.0 es → placed base w (place base es s) ≡ placed base w s
   over [] none = ap (placed base w) (place_none base s)
   over (e ∷ []) (some v a b) = ap (placed base w) (place_one base (w.0, v) s) ∙ put_put s (base + (element_of w.0).position) v w.1 (b ∙ sym l)
+  over (e ∷ (_ ∷ _)) l' = elim l' [ ]
 
   beside : (id : ℕ) → w.0 ≢ id → (es : List (ℕ × List ℕ)) → Latest o id es → place base es (placed base w s) ≡ placed base w (place base es s)
   beside id n [] none = place_none base (placed base w s) ∙ sym (ap (placed base w) (place_none base s))
+  beside id n (e ∷ (_ ∷ _)) l' = elim l' [ ]
   beside id n (e ∷ []) (some v a b) =
       place_one base (id, v) (placed base w s)
       ∙ put_comm s (base + (element_of w.0).position) w.1 (base + (element_of id).position) v (clear b (places_apart base w.0 id w.1 (input_named o w.0 h) (input_named o id a) n l))
@@ -199,6 +201,7 @@ due_length o ws f (suc n) h =
 
     one : (es : List (ℕ × List ℕ)) → Latest o (thread_element n).id es → length (elements_bytes es) ≤ cond (is_input Full (thread_element n).id) (4 + (thread_element n).size) 0
     one [] none = omega arith
+    one (e ∷ (_ ∷ _)) l = elim l [ ]
     one (e ∷ []) (some v a b) =
         let q : cond (is_input Full (thread_element n).id) (4 + (thread_element n).size) 0 ≡ 4 + (thread_element n).size = ap (λ (t : Bool). cond t (4 + (thread_element n).size) 0) (input_full o (thread_element n).id a) in
         let k = ap length (append-nil (element_bytes (thread_element n).id v)) ∙ length_element (thread_element n).id v in
