@@ -17,11 +17,10 @@ pub end_of-b-requires : goal.end_of-b-requires
 end_of-b-requires c = long_enough c.args.second.now _ c.bad_length-2.ensures c.if-bad_length-2.false
 
 pub join_at-requires : goal.join_at-requires
-join_at-requires c =
-    (
-      measured _ _ _ _ c.bad_length.ensures c.if-bad_length.false c.end_of-a.ensures c.in-Ends.is,
-      measured _ _ _ _ c.bad_length-2.ensures c.if-bad_length-2.false c.end_of-b.ensures c.in-Ends-b.is,
-    )
+join_at-requires c = (
+  measured _ _ _ _ c.bad_length.ensures c.if-bad_length.false c.end_of-a.ensures c.in-Ends.is,
+  measured _ _ _ _ c.bad_length-2.ensures c.if-bad_length-2.false c.end_of-b.ensures c.in-Ends-b.is,
+)
 
 pub returns-in-Cut : goal.returns-in-Cut
 returns-in-Cut c = search (rules, first_cut)

@@ -50,5 +50,8 @@ overflow_sub-result c =
     omega (arith, n, c.play_all-s.ensures.at_in_bounds.0)
 
 pub returns : goal.returns
-returns c = let r = c.requires.0 in record { fact = window_all _ _ _ _ _ _ _ _ _ _ _ _ _ _ _ _ c.play_all-s.ensures.fact r.within c.play_all-s.ensures.at_in_bounds.0
-          c.is_stop-stops.ensures c.push_end-written.ensures.0 c.keep.ensures c.is_open.ensures; kept_in_bounds = (omega (arith, r.within), c.push_end-written.ensures.1) }
+returns c = let r = c.requires.0 in record {
+  fact = window_all _ _ _ _ _ _ _ _ _ _ _ _ _ _ _ _ c.play_all-s.ensures.fact r.within c.play_all-s.ensures.at_in_bounds.0
+      c.is_stop-stops.ensures c.push_end-written.ensures.0 c.keep.ensures c.is_open.ensures;
+  kept_in_bounds = (omega (arith, r.within), c.push_end-written.ensures.1);
+}
