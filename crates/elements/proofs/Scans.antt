@@ -17,7 +17,7 @@ use Rattle.elements.specs.declared.Source.{Source}
 use Rattle.elements.specs.declared.Kind.{Kind}
 use Rattle.elements.specs.declared.Kind.TheVariants.{Unlisted, Listed}
 use Rattle.elements.specs.declared.Element.{Element}
-use Rattle.elements.specs.Table.{many, same_scope, position}
+use Rattle.elements.specs.Table.{many, same_scope}
 use Rattle.elements.specs.Ranges.{ranges, range_at}
 use Rattle.elements.specs.Private.{ranges_from, bytes_each, source_at, listed_as, scanned, counted, element_in}
 use Rattle.elements.specs.Right.{every_row}

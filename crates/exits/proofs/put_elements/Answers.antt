@@ -1,5 +1,4 @@
 use Rattle.exits.proofs.Written.{row_few, row_start, at_start, id_listed, id_small, id_inside, id_room, at_turn, row_turn, row_end}
-use Prim.Native.Nat.{◌-◌}
 use mathlib.Core.Path.{refl}
 use borrow.Author.Rules.{rules}
 use Rattle.exits.proofs.put_elements.Goals as goal

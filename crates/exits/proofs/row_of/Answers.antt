@@ -1,5 +1,4 @@
 use Rattle.exits.proofs.Rows.{search_start, search_hit, search_miss, search_end}
-use Prim.Native.Nat.{◌-◌}
 use borrow.Author.Rules.{rules}
 use Rattle.exits.proofs.row_of.Goals as goal
 

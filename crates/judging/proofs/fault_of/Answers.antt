@@ -1,6 +1,5 @@
 -- What a step that stops tells.
 use Rattle.judging.proofs.Steps.{fault_next, fault_stop}
-use Prim.Native.Nat.{◌-◌}
 use borrow.Author.Rules.{rules}
 use Rattle.judging.proofs.fault_of.Goals as goal
 

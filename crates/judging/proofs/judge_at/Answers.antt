@@ -1,7 +1,6 @@
 -- 5, then 13, then the row of a known exit (`good_row`, `at_elements` of Tops).
 use Rattle.judging.proofs.Tops.{good_row, at_length, at_exit, at_elements}
 use Rattle.gsb.proofs.Walks.{long_enough}
-use Prim.Native.Nat.{◌-◌}
 use borrow.Author.Rules.{rules}
 use Rattle.judging.proofs.judge_at.Goals as goal
 

@@ -1,6 +1,5 @@
 use Rattle.judging.proofs.Steps.{walk_begins, marks_begin, reached, walk_ends, walk_stops, turn_here, turn_inside, turn_marked, turn_walked}
 use Rattle.gsb.proofs.Walks.{offset_start}
-use Prim.Native.Nat.{◌-◌}
 use borrow.Author.Rules.{rules}
 use Rattle.judging.proofs.judge_elements.Goals as goal
 

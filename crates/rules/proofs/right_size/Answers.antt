@@ -1,8 +1,6 @@
 -- Each kind has its clause of `size_fits`. Assumes nothing.
 use borrow.Author.Rules.{rules}
 use Rattle.rules.specs.Rules.{size_fits}
-use Rattle.elements.specs.declared.Kind.{Kind}
-use mathlib.Core.Path.{sym, ap}
 use Rattle.rules.proofs.right_size.Goals as goal
 
 pub returns-in-Unlisted : goal.returns-in-Unlisted

@@ -1,6 +1,5 @@
 use Rattle.gsb.proofs.Walks.{offset_start}
 use Rattle.transfer.proofs.Moving.{ready_all, ready_onward, apply_start, apply_end, onward_end, onward_turn, onward_place}
-use Prim.Native.Nat.{◌-◌}
 use mathlib.Core.Path.{refl}
 use borrow.Author.Rules.{rules}
 use Rattle.transfer.proofs.apply.Goals as goal

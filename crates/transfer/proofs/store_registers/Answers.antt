@@ -1,5 +1,4 @@
 use Rattle.transfer.proofs.Moving.{ready_at, since_next, since_place, since_length, other_same, moved_on}
-use Prim.Native.Nat.{◌-◌}
 use mathlib.Core.Path.{refl}
 use borrow.Author.Rules.{rules}
 use Rattle.transfer.proofs.store_registers.Goals as goal

@@ -1,7 +1,6 @@
 use native.Mathlib.Omega.{arith}
 use Rattle.elements.proofs.Scans.{range_upward, range_light, range_room, scan_end, scan_below, scan_hit, scan_next}
 use mathlib.Core.Path.{refl}
-use Prim.Native.Nat.{◌-◌}
 use borrow.Author.Rules.{rules}
 use Rattle.elements.proofs.kinds.scan.Goals as goal
 

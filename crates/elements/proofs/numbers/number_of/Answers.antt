@@ -2,7 +2,6 @@ use Rattle.elements.proofs.Scans.{range_upward, count_end, count_early, count_in
 use Rattle.elements.proofs.Told.{count_told}
 use native.Mathlib.Omega.{arith}
 use mathlib.Core.Path.{sym}
-use Prim.Native.Nat.{◌-◌}
 use borrow.Author.Rules.{rules}
 use Rattle.elements.proofs.numbers.number_of.Goals as goal
 

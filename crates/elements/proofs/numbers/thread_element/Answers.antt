@@ -2,7 +2,6 @@ use Rattle.elements.proofs.Scans.{range_upward, range_light, element_fits, eleme
 use Rattle.elements.proofs.Told.{element_told_lem}
 use native.Mathlib.Omega.{arith}
 use mathlib.Core.Path.{sym}
-use Prim.Native.Nat.{◌-◌}
 use borrow.Author.Rules.{rules}
 use Rattle.elements.proofs.numbers.thread_element.Goals as goal
 

@@ -1,7 +1,6 @@
 use Rattle.gsb.proofs.Walks.{first_start}
 use Rattle.gsb.proofs.Judged.{good_inside}
 use Rattle.gsb.proofs.Registers.{reach_lent, first_none, skip_end, skip_good, skip_bad}
-use Prim.Native.Nat.{◌-◌}
 use borrow.Author.Rules.{rules}
 use Rattle.gsb.proofs.walk.first_bad.Goals as goal
 

@@ -1,5 +1,4 @@
 use Rattle.gsb.proofs.Registers.{left_start, left_next, left_inside, skipped}
-use Prim.Native.Nat.{◌-◌}
 use borrow.Author.Rules.{rules}
 use Rattle.gsb.proofs.walk.skip.Goals as goal
 

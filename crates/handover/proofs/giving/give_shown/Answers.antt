@@ -1,5 +1,4 @@
 use mathlib.Core.Path.{refl}
-use Prim.Native.Nat.{◌-◌}
 use borrow.Author.Rules.{rules}
 use Rattle.handover.proofs.Shown.{digit_under, digit_before, digit_from, digit_upto, left_rest, shown_room, shown_fits, less_left}
 use Rattle.handover.proofs.Stored.{give_inside, give_fits, give_holds, give_after, give_turn, give_blank, after_end, given_end}

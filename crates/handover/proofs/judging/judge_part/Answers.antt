@@ -1,4 +1,3 @@
-use Prim.Native.Nat.{◌-◌}
 use borrow.Author.Rules.{rules}
 use Rattle.handover.proofs.Counts.{count_index, place_start, solid_start, count_fits, count_add, count_upto, count_under, count_short, count_next, value_room, here_fits, count_turn, count_bad, count_end}
 use Rattle.handover.proofs.judging.judge_part.Goals as goal

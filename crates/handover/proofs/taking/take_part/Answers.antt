@@ -1,5 +1,4 @@
 use mathlib.Core.Path.{refl}
-use Prim.Native.Nat.{◌-◌}
 use borrow.Author.Rules.{rules}
 use Rattle.handover.proofs.Runs.{run_turn, buffer_turn, room_turn, word_here, room_here, run_end, buffer_end}
 use Rattle.handover.proofs.Places.{start_fits, start_here, part_here, part_room, part_fits}

@@ -1,4 +1,3 @@
-use Prim.Native.Nat.{◌-◌}
 use borrow.Author.Rules.{rules}
 use Rattle.handover.proofs.Zero.{zero_start, zero_stop, zero_turn, zero_end}
 use Rattle.handover.proofs.zeros.zero_bytes.Goals as goal

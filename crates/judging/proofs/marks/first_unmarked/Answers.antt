@@ -1,6 +1,5 @@
 use Rattle.judging.proofs.Marked.{mark_hit, mark_more, mark_end}
 use mathlib.Core.Path.{refl}
-use Prim.Native.Nat.{◌-◌}
 use borrow.Author.Rules.{rules}
 use Rattle.judging.proofs.marks.first_unmarked.Goals as goal
 

@@ -1,6 +1,5 @@
 use Rattle.judging.proofs.Marked.{stand_seen, stand_new, stand_more, stand_end}
 use mathlib.Core.Path.{refl}
-use Prim.Native.Nat.{◌-◌}
 use borrow.Author.Rules.{rules}
 use Rattle.judging.proofs.marks.search.Goals as goal
 

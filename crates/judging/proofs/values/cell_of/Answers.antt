@@ -1,6 +1,5 @@
 -- A register has the cell that the table gives it.
 use Rattle.judging.proofs.Bytewise.{register_found}
-use Prim.Native.Nat.{◌-◌}
 use borrow.Author.Rules.{rules}
 use Rattle.judging.proofs.values.cell_of.Goals as goal
 

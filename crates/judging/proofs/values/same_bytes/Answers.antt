@@ -1,5 +1,4 @@
 use Rattle.judging.proofs.Bytewise.{same_start, same_more, same_differ, same_end}
-use Prim.Native.Nat.{◌-◌}
 use borrow.Author.Rules.{rules}
 use Rattle.judging.proofs.values.same_bytes.Goals as goal
 

@@ -1,6 +1,5 @@
 -- Eight bytes are the same exactly if their number is (`same_eight`).
 use Rattle.judging.proofs.Bytewise.{same_eight}
-use Prim.Native.Nat.{◌-◌}
 use borrow.Author.Rules.{rules}
 use Rattle.judging.proofs.values.same_value.Goals as goal
 

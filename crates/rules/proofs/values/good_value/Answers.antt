@@ -1,6 +1,5 @@
 -- The laws of `good_value`: a register has no rule, get has none, setting has `rule_of`. Assumes nothing.
 use Rattle.rules.proofs.Rules.{value_register, value_get, value_set}
-use borrow.Author.Tests.{not-true, not-false}
 use mathlib.Core.Path.{sym, ◌∙◌}
 use Rattle.rules.proofs.values.good_value.Goals as goal
 

@@ -1,5 +1,4 @@
 use Rattle.store.proofs.Converting.{lives_none, lives_more, lives_all}
-use Prim.Native.Nat.{◌-◌}
 use mathlib.Core.Path.{refl}
 use borrow.Author.Rules.{rules}
 use Rattle.store.proofs.conversion.copy_lives.Goals as goal

@@ -1,5 +1,4 @@
 use Rattle.store.proofs.Converting.{marks_none, marks_more, marks_all}
-use Prim.Native.Nat.{◌-◌}
 use mathlib.Core.Path.{refl}
 use borrow.Author.Rules.{rules}
 use Rattle.store.proofs.conversion.copy_marks.Goals as goal

@@ -1,5 +1,4 @@
 use Rattle.store.proofs.Converting.{words_none, words_more, words_all}
-use Prim.Native.Nat.{◌-◌}
 use mathlib.Core.Path.{refl}
 use borrow.Author.Rules.{rules}
 use Rattle.store.proofs.conversion.copy_words.Goals as goal

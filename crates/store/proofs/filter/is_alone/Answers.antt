@@ -1,5 +1,4 @@
 use borrow.Author.Rules.{rules}
-use Prim.Native.Nat.{◌-◌}
 use Rattle.store.proofs.Filtered.{alone_start_lem, alone_hit, alone_miss, alone_end}
 use Rattle.store.proofs.filter.is_alone.Goals as goal
 

@@ -1,4 +1,3 @@
-use Prim.Native.Nat.{◌-◌}
 use Rattle.store.proofs.Noted.{noted_none}
 use Rattle.store.proofs.Filtered.{filter_start, filter_bad, filter_turn, filter_noted, filter_end}
 use borrow.Author.Rules.{rules}

@@ -1,4 +1,3 @@
-use Prim.Native.Nat.{◌-◌}
 use borrow.Author.Rules.{rules}
 use Rattle.store.proofs.Loops.{times_start, times_turn, times_end}
 use Rattle.store.proofs.formed.times.Goals as goal

@@ -1,5 +1,4 @@
 use Rattle.store.proofs.Loops.{words_start, words_bad, words_turn, words_end}
-use Prim.Native.Nat.{◌-◌}
 use borrow.Author.Rules.{rules}
 use Rattle.store.proofs.formed.words_counted.Goals as goal
 

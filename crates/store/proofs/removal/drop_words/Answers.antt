@@ -1,5 +1,4 @@
 use Rattle.store.proofs.Writes.{drop_start, drop_turn, drop_end}
-use Prim.Native.Nat.{◌-◌}
 use mathlib.Core.Path.{refl}
 use borrow.Author.Rules.{rules}
 use Rattle.store.proofs.removal.drop_words.Goals as goal

@@ -1,5 +1,4 @@
 use Rattle.store.proofs.Writes.{guests_none, guests_more, guests_all}
-use Prim.Native.Nat.{◌-◌}
 use mathlib.Core.Path.{refl}
 use borrow.Author.Rules.{rules}
 use Rattle.store.proofs.removal.no_guests.Goals as goal

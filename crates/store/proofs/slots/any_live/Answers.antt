@@ -1,5 +1,4 @@
 use Rattle.store.proofs.Loops.{alive_start, alive_hit, alive_miss, alive_end}
-use Prim.Native.Nat.{◌-◌}
 use borrow.Author.Rules.{rules}
 use Rattle.store.proofs.slots.any_live.Goals as goal
 

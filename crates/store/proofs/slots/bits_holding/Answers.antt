@@ -1,4 +1,3 @@
-use Prim.Native.Nat.{◌-◌}
 use borrow.Author.Rules.{rules}
 use Rattle.store.proofs.Loops.{find_start, find_told, find_past, find_end}
 use Rattle.store.proofs.slots.bits_holding.Goals as goal

@@ -1,5 +1,4 @@
 use Rattle.store.proofs.Loops.{free_start, free_hit, free_miss, free_end}
-use Prim.Native.Nat.{◌-◌}
 use borrow.Author.Rules.{rules}
 use Rattle.store.proofs.slots.free_guest.Goals as goal
 

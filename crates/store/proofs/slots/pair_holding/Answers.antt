@@ -1,4 +1,3 @@
-use Prim.Native.Nat.{◌-◌}
 use borrow.Author.Rules.{rules}
 use Rattle.store.proofs.Loops.{find_start, find_hit, find_miss, find_end}
 use Rattle.store.proofs.slots.pair_holding.Goals as goal

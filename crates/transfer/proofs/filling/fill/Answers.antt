@@ -1,6 +1,5 @@
 use Rattle.gsb.proofs.Walks.{offset_start}
 use Rattle.transfer.proofs.Filled.{fill_ready, fill_next, fill_turn, fill_start, fill_end}
-use Prim.Native.Nat.{◌-◌}
 use mathlib.Core.Path.{refl}
 use borrow.Author.Rules.{rules}
 use Rattle.transfer.proofs.filling.fill.Goals as goal
