@@ -10,28 +10,19 @@ mod plain;
 mod start;
 
 use draw::OPERATIONS;
-use libc::STDOUT_FILENO;
+use std::io;
 
-fn print(name: &[u8], digest: u64) {
-    io::write_all(STDOUT_FILENO, name);
-    io::print_hex(STDOUT_FILENO, digest, 8);
-    io::write_all(STDOUT_FILENO, b"\n");
-}
-
-fn drill(pvr: u32) {
+fn drill(rt: &impl Print, pvr: u32) -> io::Result<()> {
     let cached = cached::drill(pvr);
-    io::write_all(STDOUT_FILENO, b"PVR ");
-    io::print_hex(STDOUT_FILENO, pvr as u64, 8);
-    io::write_all(STDOUT_FILENO, b"\n");
-    print(b"cached ", cached.all);
-    print(b"plain  ", plain::drill(pvr));
-    print(b"inputs ", cached.inputs);
+    let plain = plain::drill(pvr);
+    println!(rt; "PVR {pvr:08x}")?;
+    println!(rt; "cached {:08x}", cached.all)?;
+    println!(rt; "plain  {plain:08x}")?;
+    println!(rt; "inputs {:08x}", cached.inputs)
 }
 
-fn main() {
-    io::write_all(STDOUT_FILENO, b"operations ");
-    io::print_decimal(STDOUT_FILENO, OPERATIONS);
-    io::write_all(STDOUT_FILENO, b"\n");
-    drill(0x0F00_0006);
-    drill(0x0F00_0005);
+fn main(rt: HostRuntime) -> io::Result<()> {
+    println!(rt; "operations {OPERATIONS}")?;
+    drill(&rt, 0x0F00_0006)?;
+    drill(&rt, 0x0F00_0005)
 }

@@ -1,16 +1,34 @@
 // Lists the guest state buffer on standard input, judged as a thread set.
 #![tactic(auto)]
 
-use libc::{STDIN_FILENO, STDOUT_FILENO};
-use render::{ROOM, Rendered, render};
+ghost use Rattle.std.specs.Io.{ReadsAtMost};
 
-fn main() {
+use render::{ROOM, Rendered, render};
+use std::io;
+use std::io::{Read, Write};
+
+// Reads until the buffer is full or the input ends, and returns how many bytes stand at the buffer's front then.
+fn fill(input: &mut impl Read, buffer: &mut [u8]) -> io::Result<usize>
+    ensures { ReadsAtMost result buffer.new }
+{
+    let mut filled = 0;
+    while filled < buffer.len() {
+        let n = input.read(&mut buffer[filled..])?;
+        if n == 0 {
+            break;
+        }
+        filled += n;
+    }
+    Ok(filled)
+}
+
+fn main(rt: HostRuntime) -> io::Result<()> {
     // One byte past the longest buffer tells one that is too long.
     let mut input = [0u8; 65537];
     let mut text = [0u8; ROOM];
-    let n = io::read_full(STDIN_FILENO, &mut input);
+    let n = fill(&mut rt.stdin(), &mut input)?;
     let Rendered::Text(len) = render(&input[..n], &mut text) else {
-        return;
+        return Ok(());
     };
-    io::write_all(STDOUT_FILENO, &text[..len]);
+    rt.stdout().write_all(&text[..len])
 }

@@ -1,0 +1,6 @@
+-- By `counted`.
+use Rattle.replay.proofs.Blank.{counted}
+use Rattle.replay.proofs.blank_text.Goals as goal
+
+pub returns : goal.returns
+returns c = counted 738740
