@@ -17,28 +17,29 @@ use Rattle.store.proofs.Frame.{formed}
 use Rattle.store.proofs.Tests.{live_parts}
 use Rattle.admission.specs.declared.Admission.{Admission}
 use Rattle.admission.specs.declared.Admission.TheVariants.{Admitted, Refused}
-use Rattle.admission.specs.Refusals.{first_tests, admission}
-
-module _ (supported flags : ℕ) (t : Bool) where
-  -- ---- the answers of `first_tests`
-  pub first_store : not t ≡ true → Refused Store ≡ first_tests t supported flags
-  first_store h = sym (simp h)
-
-  module _ (h : not t ≡ false) (x : ℕ) (q : x ≡ outside supported flags) where
-    pub first_flag : (x ≡ 0 → ⊥) → Refused (Flag (count_leading_zeros 64 x)) ≡ first_tests t supported flags
-    first_flag n =
-        let m : outside supported flags ≡ 0 → ⊥ = λ z. n (q ∙ z) in
-        sym (simp (h, ne_eqb _ _ m) (ap (λ (y : ℕ). Refused (Flag (count_leading_zeros 64 y))) (sym q)))
-
-    pub first_all : x ≡ 0 → Admitted ≡ first_tests t supported flags
-    first_all z =
-        let m : outside supported flags ≡ 0 = sym q ∙ z in
-        sym (simp (h, eq-eqb _ _ m))
+use Rattle.admission.specs.Refusals.{admission}
 
 module _ (l : Layout) (s : List ℕ) (supported flags : ℕ) where
-  pub first_admission : (t : Bool) (a : Admission) → a ≡ first_tests t supported flags → t ≡ well_formed l s → a ≡ admission l s supported flags
+  -- ---- the answers of `admit`
+  pub admit_store : (t : Bool) → t ≡ well_formed l s → not t ≡ true → Refused Store ≡ admission l s supported flags
   unfolding admission
-  first_admission t a q e = q ∙ ap (λ (x : Bool). first_tests x supported flags) e
+  admit_store t e h = let n : not (well_formed l s) ≡ true = ap not (sym e) ∙ h in sym (simp n)
+
+  module _ (t : Bool) (e : t ≡ well_formed l s) (h : not t ≡ false) (x : ℕ) (q : x ≡ outside supported flags) where
+    passed : not (well_formed l s) ≡ false
+    passed = ap not (sym e) ∙ h
+
+    pub admit_flag : (x ≡ 0 → ⊥) → Refused (Flag (count_leading_zeros 64 x)) ≡ admission l s supported flags
+    unfolding admission
+    admit_flag n =
+        let m : outside supported flags ≡ 0 → ⊥ = λ z. n (q ∙ z) in
+        sym (simp (passed, ne_eqb _ _ m) (ap (λ (y : ℕ). Refused (Flag (count_leading_zeros 64 y))) (sym q)))
+
+    pub admit_all : x ≡ 0 → Admitted ≡ admission l s supported flags
+    unfolding admission
+    admit_all z =
+        let m : outside supported flags ≡ 0 = sym q ∙ z in
+        sym (simp (passed, eq-eqb _ _ m))
 
   -- ---- what a call's refusals make of it: `tests` of the first two, `rest` of the others
   abbrev tests : {A : Type 0} → (Fault → A) → A → A
@@ -90,9 +91,6 @@ leading_fits x = omega (arith, leading_le 64 x)
 module _ (l : Layout) (s : List ℕ) where
   pub past_long : (supported flags : ℕ) (a : Admission) → a ≡ admission l s supported flags → a ≡ Admitted → length s ≡ l.size
   past_long supported flags a e h = (formed l s (past l s supported flags a e h).good).long
-
-  pub tested_long : (supported flags : ℕ) (t : Bool) (a : Admission) → t ≡ well_formed l s → a ≡ first_tests t supported flags → a ≡ Admitted → length s ≡ l.size
-  tested_long supported flags t a e q h = past_long supported flags a (first_admission l s supported flags t a q e) h
 
   pub good_long : (t : Bool) → t ≡ well_formed l s → not t ≡ false → length s ≡ l.size
   good_long t e h = (formed l s (sym e ∙ not-false t h)).long

@@ -19,16 +19,13 @@ use Rattle.admission.specs.declared.Target.{Target}
 use Rattle.admission.specs.declared.Target.TheVariants.{Refused as TargetRefused, At}
 use Rattle.admission.specs.declared.Slot.{Slot}
 use Rattle.admission.specs.declared.Slot.TheVariants.{Refused as SlotRefused, At as SlotAt}
-use Rattle.admission.specs.Refusals.{first_tests, admission, judgement}
+use Rattle.admission.specs.Refusals.{admission, judgement}
 use Rattle.admission.specs.Target.{slot_named, is_absent, is_away, target_tests, base_of, target_of, Held, vcpu_tests, vcpu_slot, Within}
-use Rattle.admission.proofs.FirstTests.{first_admission, refused, past, admitted}
+use Rattle.admission.proofs.FirstTests.{refused, past, admitted}
 use Rattle.admission.proofs.Judging.{was_refused, was_admitted, judged_passed}
 
 -- ---- the answers of `target_of`
-module _ (l : Layout) (s : List ℕ) (supported flags : ℕ) (wide : Bool) (guest vcpu : ℕ) (t : Bool) (g : t ≡ well_formed l s) (a : Admission) (u : a ≡ first_tests t supported flags) where
-  q : a ≡ admission l s supported flags
-  q = first_admission l s supported flags t a u g
-
+module _ (l : Layout) (s : List ℕ) (supported flags : ℕ) (wide : Bool) (guest vcpu : ℕ) (a : Admission) (q : a ≡ admission l s supported flags) where
   rest : Target
   rest = cond (not (live l (header l s) guest)) (TargetRefused Guest) (cond (not wide && is_absent l s guest vcpu) (TargetRefused Vcpu)
       (cond (not wide && is_away l s guest vcpu) (TargetRefused Taken) (At (base_of l s wide guest vcpu))))
@@ -63,12 +60,12 @@ module _ (l : Layout) (s : List ℕ) (supported flags : ℕ) (wide : Bool) (gues
             let m : l.slots ≤ slot_of l (header l s) guest vcpu = omega arith in
             sym (target_past ∙ simp (alive, w, le-leb _ _ m))
 
-        module _ (k : j < l.slots) (y : Bool) (away : y ≡ is_taken l (header l s) j) where
+        module _ (k : j < l.slots) (y : Bool) (t : y ≡ is_taken l (header l s) j) where
           present : leb l.slots (slot_of l (header l s) guest vcpu) ≡ false
           present = lt-leb _ _ (subst (λ (i : ℕ). i < l.slots) e k)
 
           mark : is_taken l (header l s) (slot_of l (header l s) guest vcpu) ≡ y
-          mark = sym (away ∙ ap (is_taken l (header l s)) e)
+          mark = sym (t ∙ ap (is_taken l (header l s)) e)
 
           pub target_taken : y ≡ true → TargetRefused Taken ≡ target_of l s supported flags wide guest vcpu
           unfolding rest
@@ -214,12 +211,6 @@ slot_within l h guest vcpu j e k = go (live l h guest) (ltb vcpu 2048) refl (sub
 
 -- ---- in the layout that the store's length tells
 module _ (l m : Layout) (e : l ≡ m) where
-  pub formed_told : (s : List ℕ) (t : Bool) → t ≡ well_formed l s → t ≡ well_formed m s
-  formed_told s t q = q ∙ ap (λ (x : Layout). well_formed x s) e
-
-  pub formed_sized : (s : List ℕ) (t : Bool) → t ≡ well_formed m s → t ≡ well_formed l s
-  formed_sized s t q = q ∙ ap (λ (x : Layout). well_formed x s) (sym e)
-
   pub target_sized : (s : List ℕ) (supported flags : ℕ) (wide : Bool) (guest vcpu : ℕ) (r : Target) → r ≡ target_of l s supported flags wide guest vcpu
       → r ≡ target_of m s supported flags wide guest vcpu
   target_sized s supported flags wide guest vcpu r q = q ∙ ap (λ (x : Layout). target_of x s supported flags wide guest vcpu) e

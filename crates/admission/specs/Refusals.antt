@@ -61,10 +61,6 @@ judgement tests = first_of Refused tests Admitted
 unfoldable pub admission : Layout → List ℕ → ℕ → ℕ → Admission
 admission l s supported flags = judgement (malformed l s ∷ unsupported supported flags ∷ [])
 
--- the same of a store that is well formed or is not
-abbrev pub first_tests : Bool → ℕ → ℕ → Admission
-first_tests formed supported flags = judgement ((not formed, Store) ∷ unsupported supported flags ∷ [])
-
 -- "bit 0 is the most significant of 64": the number that it is, and whether a word of 64 bits has it
 abbrev pub bit0 : ℕ
 bit0 = 2 ^ 63

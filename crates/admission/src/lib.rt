@@ -5,8 +5,7 @@
 ghost use Rattle.std.specs.Prelude.{◌≡◌, ◌<◌, length};
 ghost use Rattle.store.specs.Layout.{layout_of};
 ghost use Rattle.store.specs.Header.{outside};
-ghost use Rattle.store.specs.Store.{well_formed};
-ghost use Rattle.admission.specs.Refusals.{first_tests, admission};
+ghost use Rattle.admission.specs.Refusals.{admission};
 ghost use Rattle.admission.specs.Target.{target_of, Held, vcpu_slot, Within};
 
 use answer::Fault;
@@ -40,20 +39,12 @@ pub fn other_bits(supported: u64, x: u64) -> u64
     x & !supported
 }
 
-// 1, whichever size the store has. It is tested before what a call names is looked for, and apart from it: the entries have 512 bytes of
-// stack, and what is called by a function takes them beside what the function itself does.
-pub fn is_formed(store: &[u8]) -> bool
-    ensures { result ≡ well_formed (layout_of store.now) store.now }
+// 1 and 2, with which every call with flags begins.
+pub fn admit(store: &[u8], l: Layout, supported: u64, flags: u64) -> Admission
+    requires { l ≡ layout_of store.now }
+    ensures { result ≡ admission l store.now supported flags }
 {
-    let l = layout_of(store);
-    well_formed(store, l)
-}
-
-// 1 and 2, of a store that was tested.
-fn first_tests(formed: bool, supported: u64, flags: u64) -> Admission
-    ensures { result ≡ first_tests formed supported flags }
-{
-    if !formed {
+    if !well_formed(store, l) {
         return Admission::Refused(Fault::Store);
     }
     let bad = other_bits(supported, flags);
@@ -63,30 +54,21 @@ fn first_tests(formed: bool, supported: u64, flags: u64) -> Admission
     Admission::Admitted
 }
 
-// 1 and 2, with which every call with flags begins.
-pub fn admit(store: &[u8], l: Layout, supported: u64, flags: u64) -> Admission
-    requires { l ≡ layout_of store.now }
-    ensures { result ≡ admission l store.now supported flags }
-{
-    first_tests(well_formed(store, l), supported, flags)
-}
-
 // In the layout l, which the store's length tells.
 fn target_with(
     store: &[u8],
     l: Layout,
-    formed: bool,
     supported: u64,
     flags: u64,
     wide: bool,
     guest: usize,
     vcpu: usize,
 ) -> Target
-    requires { (l ≡ layout_of store.now) × (formed ≡ well_formed l store.now) }
+    requires { l ≡ layout_of store.now }
     ensures value { result ≡ target_of l store.now supported flags wide guest vcpu }
     ensures held { Held result wide l (length store.now) }
 {
-    let admission = first_tests(formed, supported, flags);
+    let admission = admit(store, l, supported, flags);
     match admission {
         Admission::Refused(fault) => return Target::Refused(fault),
         Admission::Admitted => {}
@@ -107,22 +89,20 @@ fn target_with(
     Target::At(slot_at(l, slot))
 }
 
-// The tests 1 to 4 and 16, and where the values of the guest or the vCPU start; `formed` is what `is_formed` tells.
+// The tests 1 to 4 and 16, and where the values of the guest or the vCPU start.
 pub fn target_of(
     store: &[u8],
-    formed: bool,
     supported: u64,
     flags: u64,
     wide: bool,
     guest: usize,
     vcpu: usize,
 ) -> Target
-    requires { formed ≡ well_formed (layout_of store.now) store.now }
     ensures value { result ≡ target_of (layout_of store.now) store.now supported flags wide guest vcpu }
     ensures held { Held result wide (layout_of store.now) (length store.now) }
 {
     let l = layout_of(store);
-    target_with(store, l, formed, supported, flags, wide, guest, vcpu)
+    target_with(store, l, supported, flags, wide, guest, vcpu)
 }
 
 // In the layout l, which the store's length tells.

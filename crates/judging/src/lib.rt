@@ -14,7 +14,7 @@ ghost use Rattle.judging.specs.declared.Step.TheVariants.{Stop};
 ghost use Rattle.judging.specs.Judging.{compared, judge_output};
 ghost use Rattle.judging.specs.Private.{ids_in, marks, GoodRow, Reached, stepped, stopped, finding, judged_at};
 
-use admission::{Target, is_formed, target_of};
+use admission::{Target, target_of};
 use answer::{Answer, Bad, Fault, Place, refusal};
 use exits::{row_at, row_of};
 use gsb::bad_length;
@@ -133,8 +133,7 @@ fn judge_at(store: &[u8], base: usize, exit: u64, b: &[u8]) -> Fault
 pub fn judge_output(store: &[u8], guest: u64, vcpu: u64, exit_reason: u64, buffer: &[u8]) -> Answer
     ensures { result ≡ judge_output (layout_of store.now) store.now guest vcpu exit_reason buffer.now }
 {
-    let formed = is_formed(store);
-    let target = target_of(store, formed, 0, 0, false, guest as usize, vcpu as usize);
+    let target = target_of(store, 0, 0, false, guest as usize, vcpu as usize);
     match target {
         Target::Refused(fault) => refusal(fault),
         Target::At(base) => refusal(judge_at(store, base, exit_reason, buffer)),

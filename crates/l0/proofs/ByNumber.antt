@@ -77,9 +77,9 @@ module _ (l : Layout) (s : List ℕ) (k flags guest number exit : ℕ) (d effect
     unfolding called outcome
     call_set_state e q = kind_is 6 _ e (writes_none _ q)
 
-    pub call_run : (v w : List ℕ) → k ≡ 7 → filled v ≡ run_vcpu l s flags guest number d u effect exit → w ≡ d → Is (lends w v)
+    pub call_run : (v : List ℕ) → k ≡ 7 → filled v ≡ run_vcpu l s flags guest number d u effect exit → Is (lends d v)
     unfolding called outcome
-    call_run v w e q z = ap (λ (x : List ℕ). lends x v) z ∙ kind_is 7 _ e (ap (λ (x : Outcome). wrote x d x.buffer) q)
+    call_run v e q = kind_is 7 _ e (ap (λ (x : Outcome). wrote x d x.buffer) q)
 
     pub call_delete : k ≡ 8 → filled [] ≡ delete_guest l s flags guest → Is (lends d u)
     unfolding called outcome

@@ -1,8 +1,6 @@
 // A call by its number, as a call record of request L9 names it.
 ghost use Rattle.std.specs.Prelude.{◌≡◌};
 ghost use Rattle.store.specs.Layout.{layout_of};
-ghost use Rattle.admission.specs.Refusals.{Outcome};
-ghost use Rattle.run.specs.Run.{run_vcpu};
 ghost use Rattle.l0.specs.Numbered.{Called, called, kind_name};
 
 use crate::capabilities::{get_capabilities, set_capabilities};
@@ -10,23 +8,6 @@ use answer::{Answer, Call, Fault, refusal};
 use guests::{create_guest, create_vcpu, delete_guest};
 use run::run_vcpu;
 use state::{get_state, set_state};
-
-// A run of data that is lent to be written. Apart from `call`, so that what it lends on takes stack in a run only.
-fn run_lent(
-    store: &mut [u8],
-    flags: u64,
-    guest: u64,
-    vcpu: u64,
-    data: &mut [u8],
-    output: &mut [u8],
-    effect: &[u8],
-    exit_reason: u64,
-) -> Answer
-    ensures fact { ◌≡◌ {A = Outcome} (record { answer = result; store = store.new; buffer = output.new }) (run_vcpu (layout_of store.old) store.old flags guest vcpu «data».old output.old effect.now exit_reason) }
-    ensures data_unchanged { «data».new ≡ «data».old }
-{
-    run_vcpu(store, flags, guest, vcpu, data, output, effect, exit_reason)
-}
 
 // The third number is the vCPU, the token or the bitmap. What a kind has no use for is ignored.
 pub fn call(
@@ -49,7 +30,7 @@ pub fn call(
         4 => create_vcpu(store, flags, guest, number),
         5 => get_state(store, flags, guest, number, data),
         6 => set_state(store, flags, guest, number, data),
-        7 => run_lent(
+        7 => run_vcpu(
             store,
             flags,
             guest,

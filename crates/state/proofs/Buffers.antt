@@ -36,11 +36,11 @@ use Rattle.admission.specs.declared.Admission.TheVariants.{Admitted, Refused}
 use Rattle.admission.specs.declared.Target.{Target}
 use Rattle.admission.specs.declared.Target.TheVariants.{Refused as TargetRefused, At}
 use Rattle.admission.specs.Refusals.{Outcome, success, refusal, accept, refuse, decide, judgement, has_bit0}
-use Rattle.admission.specs.Target.{target_tests, base_of, target_of, Held}
+use Rattle.admission.specs.Target.{target_tests, base_of, target_of}
 use Rattle.state.specs.State.{context_of, buffer_tests, supported_bits, set_use, set_elements, get_use, fill_with, get_elements}
 use Rattle.state.specs.Private.{buffer_good, set_at, get_at, bytes_for}
 use Rattle.admission.proofs.Judging.{begin_refused, begin_admitted, all_refused, all_admitted}
-use Rattle.admission.proofs.Targets.{target_judged, target_found, held_size, held_room}
+use Rattle.admission.proofs.Targets.{target_judged, target_found}
 
 -- ---- the context of a call on a guest
 pub pvr_place : position Guest 0x0003 ≡ 0
@@ -146,15 +146,15 @@ pub get_bytes : (wide : Bool) → bytes_for (get_use wide) ≡ cond wide guest_b
 get_bytes true = refl
 get_bytes false = refl
 
-module _ (l : Layout) (s : List ℕ) (guest : ℕ) (wide : Bool) (u : Usage) (k : Context) (z : k ≡ context_of l s guest u) (base n : ℕ) (t : Target) (i : Held t wide l n) (at : t ≡ At base) where
+module _ (l : Layout) (s : List ℕ) (guest : ℕ) (wide : Bool) (u : Usage) (k : Context) (z : k ≡ context_of l s guest u) (base n : ℕ) (g : n ≡ l.size) (h : base + cond wide guest_bytes slot_bytes ≤ l.size) where
   used : bytes_for k.usage ≡ bytes_for u
   used = ap (λ (y : Context). bytes_for y.usage) z
 
   pub set_room : u ≡ set_use wide → base + bytes_for k.usage ≤ n
-  set_room e = omega (arith, held_size t wide l n base i at, held_room t wide l n base i at, used, set_bytes wide, ap bytes_for e)
+  set_room e = omega (arith, h, g, used, set_bytes wide, ap bytes_for e)
 
   pub get_room : u ≡ get_use wide → base + bytes_for k.usage ≤ n
-  get_room e = omega (arith, held_size t wide l n base i at, held_room t wide l n base i at, used, get_bytes wide, ap bytes_for e)
+  get_room e = omega (arith, h, g, used, get_bytes wide, ap bytes_for e)
 
 pub element_bits : (l : Layout) (s : List ℕ) (flags : ℕ) (wide : Bool) (guest vcpu : ℕ) (a : Target) (x : ℕ) → x ≡ supported_bits wide → a ≡ target_of l s x flags wide guest vcpu
     → a ≡ target_of l s (supported_bits wide) flags wide guest vcpu

@@ -8,13 +8,12 @@ mod single;
 ghost use Rattle.std.specs.Prelude.{◌≡◌, [], ◌+◌, ◌≤◌, length};
 ghost use Rattle.rules.specs.declared.Usage.TheVariants.{ThreadGet};
 ghost use Rattle.store.specs.Layout.{layout_of};
-ghost use Rattle.store.specs.Store.{well_formed};
 ghost use Rattle.admission.specs.Refusals.{Outcome, has_bit0};
 ghost use Rattle.admission.specs.Target.{target_of, Held};
 ghost use Rattle.state.specs.State.{context_of, supported_bits, set_use, set_elements, set_state, get_use, get_elements, get_state};
 ghost use Rattle.state.specs.Private.{buffer_good, set_at, get_at, bytes_for};
 
-use admission::{Admission, Target, is_formed, target_of};
+use admission::{Admission, Target, target_of};
 use answer::{Answer, Fault, refusal, success};
 use elements::offer_of;
 use gsb::{Walked, bad_length, first_bad};
@@ -76,21 +75,12 @@ fn supported_bits(wide: bool) -> u64
 }
 
 // Where the elements' values are, with one argument less than `target_of`: none goes over the stack, which the entries have 512 bytes of.
-fn element_target(
-    store: &[u8],
-    formed: bool,
-    flags: u64,
-    wide: bool,
-    guest: u64,
-    vcpu: u64,
-) -> Target
-    requires { formed ≡ well_formed (layout_of store.now) store.now }
+fn element_target(store: &[u8], flags: u64, wide: bool, guest: u64, vcpu: u64) -> Target
     ensures value { result ≡ target_of (layout_of store.now) store.now (supported_bits wide) flags wide guest vcpu }
     ensures held { Held result wide (layout_of store.now) (length store.now) }
 {
     target_of(
         store,
-        formed,
         supported_bits(wide),
         flags,
         wide,
@@ -123,9 +113,8 @@ fn set_at(store: &mut [u8], base: usize, k: Context, buffer: &[u8]) -> Answer
 pub fn set_elements(store: &mut [u8], flags: u64, guest: u64, vcpu: u64, buffer: &[u8]) -> Answer
     ensures { ◌≡◌ {A = Outcome} (record { answer = result; store = store.new; buffer = [] }) (set_elements (layout_of store.old) store.old flags guest vcpu buffer.now) }
 {
-    let formed = is_formed(store);
     let wide = is_wide(flags);
-    let target = element_target(store, formed, flags, wide, guest, vcpu);
+    let target = element_target(store, flags, wide, guest, vcpu);
     match target {
         Target::Refused(fault) => refusal(fault),
         Target::At(base) => {
@@ -169,9 +158,8 @@ fn get_at(store: &[u8], base: usize, k: Context, buffer: &mut [u8]) -> Answer
 pub fn get_elements(store: &[u8], flags: u64, guest: u64, vcpu: u64, buffer: &mut [u8]) -> Answer
     ensures { ◌≡◌ {A = Outcome} (record { answer = result; store = store.now; buffer = buffer.new }) (get_elements (layout_of store.now) store.now flags guest vcpu buffer.old) }
 {
-    let formed = is_formed(store);
     let wide = is_wide(flags);
-    let target = element_target(store, formed, flags, wide, guest, vcpu);
+    let target = element_target(store, flags, wide, guest, vcpu);
     match target {
         Target::Refused(fault) => refusal(fault),
         Target::At(base) => {

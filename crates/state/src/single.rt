@@ -11,7 +11,7 @@ ghost use Rattle.state.specs.State.{got_element};
 ghost use Rattle.state.specs.Private.{get_at};
 
 use super::context_of;
-use admission::{Target, is_formed, target_of};
+use admission::{Target, target_of};
 use answer::{Answer, Bad, Fault, Place, refusal, success};
 use elements::{is_offered, number_of, thread_element};
 use octets::copy;
@@ -48,16 +48,7 @@ pub fn get_element(store: &[u8], guest: u64, vcpu: u64, id: u16, value: &mut [u8
     ensures value { result ≡ (got_element (layout_of store.now) store.now guest vcpu id value.old).answer }
     ensures value_after { value.new ≡ bytes_at (got_element (layout_of store.now) store.now guest vcpu id value.old).buffer 8 (length value.old) }
 {
-    let formed = is_formed(store);
-    let target = target_of(
-        store,
-        formed,
-        BIT_1,
-        0,
-        false,
-        guest as usize,
-        vcpu as usize,
-    );
+    let target = target_of(store, BIT_1, 0, false, guest as usize, vcpu as usize);
     match target {
         Target::Refused(fault) => refusal(fault),
         Target::At(base) => {

@@ -14,7 +14,7 @@ use Rattle.l0.specs.Numbered.{kind_name}
 use Rattle.tally.specs.declared.Summary.{Summary}
 use Rattle.tally.specs.declared.Change.{Change}
 use Rattle.tally.specs.declared.Change.TheVariants.{Nothing, Renewed, Set, Ran, Refused}
-use Rattle.tally.specs.Tally.{new_record, plus, changed, refused_by, on_success, told_by}
+use Rattle.tally.specs.Tally.{new_record, plus, changed, refused_by, on_success, r3_of}
 use Rattle.tally.specs.Private.{after, get_change, set_change, run_change}
 
 -- ---- a counter
@@ -50,8 +50,8 @@ module _ (t : Summary) (c : Change) where
   after_other left n = sym (ap (λ (b : Bool). cond b (changed c t) t) (ne_eqb _ _ n))
 
 -- ---- by R3
-pub told_is : (kind : ℕ) (a : Answer) (c : Name) (t : Registers) → c ≡ kind_name kind → t ≡ told c a.fault a.value → t ≡ told_by kind a
-told_is kind a c t e q = q ∙ ap (λ (x : Name). told x a.fault a.value) e
+pub r3_is : (kind : ℕ) (a : Answer) (c : Name) (t : Registers) → c ≡ kind_name kind → t ≡ told c a.fault a.value → t.r3 ≡ r3_of kind a
+r3_is kind a c t e q = ap (λ (x : Registers). x.r3) q ∙ ap (λ (x : Name). (told x a.fault a.value).r3) e
 
 module _ (r3 : ℕ) where
   pub refused_low : r3 < 6 → Nothing ≡ refused_by r3

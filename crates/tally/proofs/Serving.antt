@@ -15,7 +15,6 @@ use Rattle.octets.specs.Bytes.{bytes_at}
 use Rattle.octets.proofs.Bytes.{whole}
 use Rattle.answer.specs.declared.Answer.{Answer}
 use Rattle.answer.specs.declared.Call.{Call as Name}
-use Rattle.answer.specs.declared.Registers.{Registers}
 use Rattle.answer.specs.declared.Fault.TheVariants.{Store, Records}
 use Rattle.answer.specs.Answer.{told}
 use Rattle.store.specs.declared.Layout.{Layout}
@@ -34,7 +33,7 @@ use Rattle.tally.specs.declared.Change.{Change}
 use Rattle.tally.specs.declared.Change.TheVariants.{Nothing, Renewed, Set, Ran}
 use Rattle.tally.specs.declared.Touched.{Touched}
 use Rattle.tally.specs.declared.Served.{Served}
-use Rattle.tally.specs.Tally.{Tallied, all_set, refused_by, on_success, dropped, noted, noted_by, Noted, told_by, notes, r3_of, beside, counted, tallied}
+use Rattle.tally.specs.Tally.{Tallied, all_set, refused_by, on_success, dropped, noted, noted_by, r3_of, beside, counted, tallied}
 use Rattle.tally.specs.Private.{set_in, mask_of, noted_at, one, no_slot, touched_by, get_change, set_change, run_change, change_for, HeldBytes, Serves}
 use Rattle.tally.proofs.Noting.{noted_nothing, at_nothing, one_noted, mask_noted}
 use Rattle.tally.proofs.Accepted.{Ran as Accepts, set_accepted, run_accepted, no_create, no_delete, no_get, no_set, no_run}
@@ -159,18 +158,18 @@ module _ (l : Layout) (so : Sound l) (s : List ℕ) (flags guest number exit : �
     abbrev Counts : ℕ → Type 0
     Counts k = (k ≡ 6 → n ≡ set_in d) × (k ≡ 7 → Accepts l s guest number (input_size s (base_of l s false guest number)) d exit → n ≡ set_in part)
 
-    notes_kind : (k : ℕ) → Counts k → Notes k
+    notes : (k : ℕ) → Counts k → Notes k
     unfolding change_for
-    notes_kind zero f = at_nothing _ _ ts
-    notes_kind (suc zero) f = quiet (slots_of 1) _ _ _ refl refl
-    notes_kind (suc (suc zero)) f = quiet (slots_of 2) _ _ _ refl refl
-    notes_kind (suc (suc (suc zero))) f = quiet (slots_of 3) _ _ _ refl refl
-    notes_kind (suc (suc (suc (suc zero)))) f = notes_create
-    notes_kind (suc (suc (suc (suc (suc zero))))) f = notes_get
-    notes_kind (suc (suc (suc (suc (suc (suc zero)))))) f = notes_set (f.0 refl)
-    notes_kind (suc (suc (suc (suc (suc (suc (suc zero))))))) f = notes_run (f.1 refl)
-    notes_kind (suc (suc (suc (suc (suc (suc (suc (suc zero)))))))) f = notes_delete
-    notes_kind (suc (suc (suc (suc (suc (suc (suc (suc (suc k))))))))) f = at_nothing _ _ ts
+    notes zero f = at_nothing _ _ ts
+    notes (suc zero) f = quiet (slots_of 1) _ _ _ refl refl
+    notes (suc (suc zero)) f = quiet (slots_of 2) _ _ _ refl refl
+    notes (suc (suc (suc zero))) f = quiet (slots_of 3) _ _ _ refl refl
+    notes (suc (suc (suc (suc zero)))) f = notes_create
+    notes (suc (suc (suc (suc (suc zero))))) f = notes_get
+    notes (suc (suc (suc (suc (suc (suc zero)))))) f = notes_set (f.0 refl)
+    notes (suc (suc (suc (suc (suc (suc (suc zero))))))) f = notes_run (f.1 refl)
+    notes (suc (suc (suc (suc (suc (suc (suc (suc zero)))))))) f = notes_delete
+    notes (suc (suc (suc (suc (suc (suc (suc (suc (suc k))))))))) f = at_nothing _ _ ts
 
 -- ---- in the form of the needs
 module _ (l : Layout) (s : List ℕ) (kind flags guest number exit : ℕ) (d effect u : List ℕ) where
@@ -216,30 +215,24 @@ module _ (l : Layout) (s : List ℕ) (kind flags guest number exit : ℕ) (d eff
         let r : h ≡ input_size s (slot_at l t.first) = held.registered e p.long (omega (arith, j, p.here)) (omega (arith, i, p.lent)) in
         ap set_in (b ∙ ap₂ (λ (y : List ℕ) (n : ℕ). bytes_at y 0 n) (kept_data (data_run e)) (r ∙ i))
 
-    serves_as : (r3 : ℕ) → r3 ≡ r3_of kind a → (c : Change) → c ≡ change_for kind flags r3 exit (set_in bytes) → (ts : List Summary) → length ts ≡ l.slots
+    pub serves_with : (r3 : ℕ) → r3 ≡ r3_of kind a → (c : Change) → c ≡ change_for kind flags r3 exit (set_in bytes) → (ts : List Summary) → length ts ≡ l.slots
         → ◌≡◌ {A = Tallied} (record { answer = a; store = s'; «data» = d'; output = u'; records = noted_at t.first t.slots c ts }) (tallied l ts s asked u)
     unfolding tallied
-    serves_as r3 y c z ts w =
+    serves_with r3 y c z ts w =
         let o = called l s asked u in
         let k : c ≡ change_for kind flags (r3_of kind o.answer) exit (set_in bytes) = z ∙ ap (λ (m : ℕ). change_for kind flags m exit (set_in bytes)) (y ∙ ap (λ (m : Called). r3_of kind m.answer) x) in
         let m : noted_at t.first t.slots c ts ≡ noted_by l s (call_of asked u) (r3_of kind o.answer) ts =
         ap₂ (λ (f : Touched) (g : Change). noted_at f.first f.slots g ts) q k
-        ∙ notes_kind l (sized_sound l s v) s flags guest number exit d effect u ts w h (set_in bytes) kind (counts_set, counts_run) in
+        ∙ notes l (sized_sound l s v) s flags guest number exit d effect u ts w h (set_in bytes) kind (counts_set, counts_run) in
         ap₂ beside x m ∙ sym (ap (λ (f : Bool). cond f (counted l ts s asked u) (record { answer = refusal Records; store = s; «data» = d; output = u; records = ts })) (eq-eqb _ _ w))
 
-    pub serves_with : (r : Registers) → r ≡ told_by kind a → (c : Change) → c ≡ change_for kind flags r.r3 exit (set_in bytes) → (ts : List Summary) → length ts ≡ l.slots
-        → ◌≡◌ {A = Noted} (record { registers = r; store = s'; «data» = d'; output = u'; records = noted_at t.first t.slots c ts }) (notes kind (tallied l ts s asked u))
-    serves_with r y c z ts w =
-        ap (λ (f : Registers). record { registers = f; store = s'; «data» = d'; output = u'; records = noted_at t.first t.slots c ts }) y
-        ∙ ap (notes kind) (serves_as r.r3 (ap (λ (f : Registers). f.r3) y) c z ts w)
-
-  pub serves_none : (count : ℕ) (a : Answer) (r : Registers) → a ≡ refusal Records → r ≡ told_by kind a → l ≡ layout_of s → (count ≡ l.slots → ⊥) → (ts : List Summary) → length ts ≡ count
-      → ◌≡◌ {A = Noted} (record { registers = r; store = s; «data» = d; output = u; records = noted_at 0 0 Nothing ts }) (notes kind (tallied (layout_of s) ts s asked u))
+  pub serves_none : (count : ℕ) (a : Answer) → a ≡ refusal Records → l ≡ layout_of s → (count ≡ l.slots → ⊥) → (ts : List Summary) → length ts ≡ count
+      → ◌≡◌ {A = Tallied} (record { answer = a; store = s; «data» = d; output = u; records = noted_at 0 0 Nothing ts }) (tallied (layout_of s) ts s asked u)
   unfolding tallied
-  serves_none count a r e y v n ts w =
-      ap₂ (λ (f : Registers) (g : List Summary). record { registers = f; store = s; «data» = d; output = u; records = g }) (y ∙ ap (told_by kind) e) (at_nothing 0 0 ts)
-      ∙ ap (notes kind) (sym (ap (λ (f : Bool). cond f (counted l ts s asked u) (record { answer = refusal Records; store = s; «data» = d; output = u; records = ts })) (ne_eqb _ _ (λ q. n (sym w ∙ q)))))
-      ∙ ap (λ (f : Layout). notes kind (tallied f ts s asked u)) v
+  serves_none count a e v n ts w =
+      ap₂ (λ (f : Answer) (g : List Summary). record { answer = f; store = s; «data» = d; output = u; records = g }) e (at_nothing 0 0 ts)
+      ∙ sym (ap (λ (f : Bool). cond f (counted l ts s asked u) (record { answer = refusal Records; store = s; «data» = d; output = u; records = ts })) (ne_eqb _ _ (λ r. n (sym w ∙ r))))
+      ∙ ap (λ (f : Layout). tallied f ts s asked u) v
 
   pub serves_all : (count : ℕ) → l ≡ layout_of s → count ≡ l.slots → (o : Served) (s' d' u' : List ℕ) → Serves l l.slots s asked u o s' d' u' → Serves (layout_of s) count s asked u o s' d' u'
-  serves_all count v n o s' d' u' f ts w = f ts (w ∙ n) ∙ ap (λ (g : Layout). notes kind (tallied g ts s asked u)) v
+  serves_all count v n o s' d' u' f ts w = f ts (w ∙ n) ∙ ap (λ (g : Layout). tallied g ts s asked u) v

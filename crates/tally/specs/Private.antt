@@ -13,7 +13,7 @@ use Rattle.tally.specs.declared.Change.{Change}
 use Rattle.tally.specs.declared.Change.TheVariants.{Nothing, Renewed, Set, Ran}
 use Rattle.tally.specs.declared.Touched.{Touched}
 use Rattle.tally.specs.declared.Served.{Served}
-use Rattle.tally.specs.Tally.{Noted, notes, changed, refused_by, on_success, dropped, tallied}
+use Rattle.tally.specs.Tally.{Tallied, changed, refused_by, on_success, dropped, tallied}
 
 -- 1 for an element that is no NOP
 abbrev pub weight_at : List ℕ → ℕ → ℕ
@@ -105,4 +105,4 @@ pub record HeldBytes (l : Layout) (s : List ℕ) (kind a len r : ℕ) : Type 0 w
 abbrev pub Serves : Layout → ℕ → List ℕ → CallRecord → List ℕ → Served → List ℕ → List ℕ → List ℕ → Type 0
 Serves l n s r u o s' d' u' =
     (ts : List Summary) → length ts ≡ n
-    → ◌≡◌ {A = Noted} (record { registers = o.told; store = s'; «data» = d'; output = u'; records = noted_at o.first o.slots o.change ts }) (notes r.kind (tallied l ts s r u))
+    → ◌≡◌ {A = Tallied} (record { answer = o.answer; store = s'; «data» = d'; output = u'; records = noted_at o.first o.slots o.change ts }) (tallied l ts s r u)

@@ -118,7 +118,7 @@ abbrev pub notes : ℕ → Tallied → Noted
 notes kind o = record { registers = told_by kind o.answer; store = o.store; «data» = o.«data»; output = o.output; records = o.records }
 
 abbrev pub r3_of : ℕ → Answer → ℕ
-r3_of kind a = (told_by kind a).r3
+r3_of kind a = (told (kind_name kind) a.fault a.value).r3
 
 -- the call itself, with as many records as there are slots
 abbrev pub counted : Layout → List Summary → List ℕ → CallRecord → List ℕ → Tallied

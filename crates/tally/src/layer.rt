@@ -1,7 +1,7 @@
 // The layer: a call by its number, then the records.
 ghost use Rattle.std.specs.Prelude.{◌≡◌, ◌&&◌, ltb, length};
 ghost use Rattle.store.specs.Layout.{layout_of};
-ghost use Rattle.tally.specs.Tally.{Noted, told_by, notes, tallied};
+ghost use Rattle.tally.specs.Tally.{Noted, r3_of, told_by, notes, tallied};
 ghost use Rattle.tally.specs.Private.{Serves, noted_at};
 
 use super::changes::change_for;
@@ -17,6 +17,13 @@ fn told_by(kind: u64, a: Answer) -> Registers
     ensures { result ≡ told_by kind a }
 {
     registers_of(kind_name(kind), a)
+}
+
+fn r3_of(kind: u64, a: Answer) -> u64
+    ensures { result ≡ r3_of kind a }
+{
+    let told = registers_of(kind_name(kind), a);
+    told.r3
 }
 
 // With as many records as slots. What is known only before the call is taken first.
@@ -48,10 +55,15 @@ fn serve_with(
         output,
         effect,
     );
-    let told = told_by(kind, answer);
-    let change = change_for(kind, flags, told.r3, exit_reason, first_bytes(data, held));
+    let change = change_for(
+        kind,
+        flags,
+        r3_of(kind, answer),
+        exit_reason,
+        first_bytes(data, held),
+    );
     Served {
-        told,
+        answer,
         first: slots.first,
         slots: slots.slots,
         change,
@@ -76,7 +88,7 @@ fn serve(
     let l = layout_of(store);
     if count != l.slots {
         return Served {
-            told: told_by(kind, refusal(Fault::Records)),
+            answer: refusal(Fault::Records),
             first: 0,
             slots: 0,
             change: Change::Nothing,
@@ -96,7 +108,7 @@ fn serve(
     )
 }
 
-// What is left of `served`, for the two functions that take the records: their proofs are walks by hand, and look into no struct.
+// What is left of `served`, for the two functions that take the records.
 fn first_of(served: Served) -> usize
     ensures { result ≡ served.first }
 {
@@ -109,10 +121,10 @@ fn slots_of(served: Served) -> u64
     served.slots
 }
 
-fn told_of(served: Served) -> Registers
-    ensures { result ≡ served.told }
+fn answer_of(served: Served) -> Answer
+    ensures { result ≡ served.answer }
 {
-    served.told
+    served.answer
 }
 
 // Whether a touched slot may still be among the records from i on.
@@ -166,5 +178,5 @@ pub fn tally(
         effect,
     );
     update(records, served);
-    told_of(served)
+    told_by(kind, answer_of(served))
 }

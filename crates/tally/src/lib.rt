@@ -9,7 +9,7 @@ mod counting;
 mod layer;
 mod slots;
 
-use answer::Registers;
+use answer::Answer;
 pub use layer::tally;
 
 // What is counted of the vCPU in a slot. A new one's exit reason is 4095.
@@ -39,10 +39,10 @@ pub struct Touched {
     pub slots: u64,
 }
 
-// What a call tells, and what is to be done with which records.
+// What a call answers, and what is to be done with which records.
 #[derive(Clone, Copy)]
 pub struct Served {
-    pub told: Registers,
+    pub answer: Answer,
     pub first: usize,
     pub slots: u64,
     pub change: Change,

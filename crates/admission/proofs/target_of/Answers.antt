@@ -1,10 +1,7 @@
 -- The layout is the one that the store's length tells.
-use Rattle.admission.proofs.Targets.{formed_sized, target_sized, held_sized}
+use Rattle.admission.proofs.Targets.{target_sized, held_sized}
 use borrow.Author.Rules.{rules}
 use Rattle.admission.proofs.target_of.Goals as goal
-
-pub target_with-requires : goal.target_with-requires
-target_with-requires c = (search rules, search (rules, formed_sized))
 
 pub returns : goal.returns
 returns c = record { value = search (rules, target_sized); held = search (rules, held_sized) }
