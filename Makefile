@@ -109,8 +109,8 @@ $(bench)/adderknot.pc: adderknot.pc.in include/adderknot.h FORCE
 
 FORCE:
 
-clean: ## remove all that was built, the proved crates too
-	rm -rf target
+clean: ## remove all that was built, and what rt keeps of the crates
+	rm -rf target crates/*/out
 
 # Installs these packages of Debian's if one of these commands is missing; a mirror may fail once.
 define need
@@ -146,19 +146,20 @@ kit:
 	        "the kit and put rt on the PATH. The model needs no kit: make $(bench)/model.so builds it." >&2; \
 	    exit 1; }
 
-# rt leaves alone what was built from sources that are as they were, so the times are set here.
-sources = crates.txt $(shell find crates -name '*.rt' -o -name '*.antt')
+# What rt makes of a crate, and keeps of its proofs, stands in the crate's out/, which is not among the sources.
+sources = crates.txt $(shell find crates -name out -prune -o \( -name '*.rt' -o -name '*.antt' \) -print)
 
 $(archive) $(cache_archive): target/staticlib/lib%.a: $(sources) | kit compiler
-	rt staticlib $*
-	touch $@
+	cd crates/$* && rt lib
+	install -D -m 644 crates/$*/out/lib$*.a $@
 
 # One rt at a time.
 $(cache_archive): | $(archive)
 
+# rt run also runs what it built, here on nothing.
 target/bin/listing target/bin/replay: target/bin/%: $(sources) | kit
-	rt check $*
-	touch $@
+	cd crates/$* && rt run < /dev/null > /dev/null
+	install -D crates/$*/out/$* $@
 
 $(bench)/%: bench/%.c $(headers) $(archive)
 	mkdir -p $(bench)

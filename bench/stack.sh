@@ -125,7 +125,7 @@ function reaches_by(args) {
 function moves(op, args) {
     if (op ~ /^push/)
         depth += 8
-    else if (op ~ /^pop/)
+    else if (op ~ /^popf?q?$/)
         depth -= 8
     else if (op == "sub" && args ~ /^\$0x[0-9a-f]+,%rsp$/)
         depth += number_at(args, "0x[0-9a-f]+")
