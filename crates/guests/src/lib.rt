@@ -33,7 +33,8 @@ fn create_guest_with(store: &mut [u8], l: Layout, flags: u64, token: u64) -> Ans
     success(guest as u64)
 }
 
-// H_GUEST_CREATE.
+// H_GUEST_CREATE. Never put in line: in a call by its number it would take its stack beside that of the deepest call.
+#[inline(never)]
 pub fn create_guest(store: &mut [u8], flags: u64, token: u64) -> Answer
     ensures { ◌≡◌ {A = Outcome} (record { answer = result; store = store.new; buffer = [] }) (create_guest (layout_of store.old) store.old flags token) }
 {

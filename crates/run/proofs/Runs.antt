@@ -41,9 +41,9 @@ use Rattle.run.specs.declared.RunTarget.{RunTarget}
 use Rattle.run.specs.declared.RunTarget.TheVariants.{Refused as RunRefused, Slot}
 use Rattle.admission.specs.Refusals.{Outcome, success, refusal, refuse, decide, judgement, Passed}
 use Rattle.admission.specs.Target.{target_tests, base_of, target_of}
-use Rattle.state.specs.State.{context_of}
+use Rattle.state.specs.State.{context_of, bad_element}
 use Rattle.run.specs.Run.{run_bits, input_size, output_size, lent_tests, effect_fault, exit_tests, run_target_tests, input_of, content_tests, run_tests, ran_store, ran, run_vcpu}
-use Rattle.run.specs.Private.{lent_good, exit_good, run_target_of, content_good, judged_run}
+use Rattle.run.specs.Private.{lent_good, input_good, exit_good, run_target_of, content_good, judged_run}
 use Rattle.admission.proofs.Judging.{begin_refused, begin_admitted, all_refused, all_admitted, was_refused, was_admitted, judged_passed}
 use Rattle.admission.proofs.Targets.{target_judged, target_found}
 use Rattle.state.proofs.Buffers.{ready_as}
@@ -156,21 +156,32 @@ module _ (k : Context) (effect : List ℕ) (exit : ℕ) (x : Bool) (ex : x ≡ k
       unfolding exit_by
       exit_done d = exit_as true false Done (sym ex ∙ not-false x hx) (sym ey ∙ hy) (sym q ∙ d)
 
-module _ (l : Layout) (s : List ℕ) (guest : ℕ) (input effect : List ℕ) (exit : ℕ) (k : Context) (is : k ≡ context_of l s guest RunInput) (w : Walked) (q : w ≡ first_bad k input) where
-  content_by : Walked → Admission
-  content_by v = cond (is_stopped v) (Refused (fault_of v)) (judgement (exit_tests (context_of l s guest InEffect) effect exit))
+module _ (k : Context) (input : List ℕ) (w : Walked) (q : w ≡ first_bad k input) where
+  input_as : (v : Walked) → w ≡ v → cond (is_stopped v) (Refused (fault_of v)) Admitted ≡ input_good k input
+  unfolding input_good
+  input_as v d = sym (ap (λ (x : Walked). cond (is_stopped x) (Refused (fault_of x)) Admitted) (sym q ∙ d))
 
-  content_as : (v : Walked) → w ≡ v → content_by v ≡ content_good l s guest input effect exit
-  unfolding content_good content_by
-  content_as v d = sym (ap content_by (ap (λ (y : Context). first_bad y input) (sym is) ∙ sym q ∙ d))
+  pub input_bad : (bad : Bad) (place : Place) → w ≡ Stopped bad place → Refused (Element bad place) ≡ input_good k input
+  input_bad bad place d = input_as (Stopped bad place) d
 
-  pub content_bad : (bad : Bad) (place : Place) → w ≡ Stopped bad place → Refused (Element bad place) ≡ content_good l s guest input effect exit
-  unfolding content_by
-  content_bad bad place d = content_as (Stopped bad place) d
+  pub input_done : w ≡ Done → Admitted ≡ input_good k input
+  input_done d = input_as Done d
 
-  pub content_exit : (v : Admission) (m : Context) → w ≡ Done → m ≡ context_of l s guest InEffect → v ≡ exit_good m effect exit → v ≡ content_good l s guest input effect exit
-  unfolding content_by exit_good
-  content_exit v m d i e = e ∙ ap (λ (y : Context). judgement (exit_tests y effect exit)) i ∙ content_as Done d
+module _ (l : Layout) (s : List ℕ) (guest : ℕ) (input effect : List ℕ) (exit : ℕ) (k : Context) (is : k ≡ context_of l s guest RunInput) (a : Admission) (q : a ≡ input_good k input) where
+  judged : judgement (bad_element (context_of l s guest RunInput) input ∷ []) ≡ a
+  unfolding input_good
+  judged = sym (q ∙ ap (λ (y : Context). judgement (bad_element y input ∷ [])) is)
+
+  pub content_bad : (f : Fault) → a ≡ Refused f → Refused f ≡ content_good l s guest input effect exit
+  unfolding content_good
+  content_bad f d =
+      sym (begin_refused Refused Admitted (bad_element (context_of l s guest RunInput) input ∷ []) (exit_tests (context_of l s guest InEffect) effect exit) f (judged ∙ d))
+
+  pub content_exit : (v : Admission) (m : Context) → a ≡ Admitted → m ≡ context_of l s guest InEffect → v ≡ exit_good m effect exit → v ≡ content_good l s guest input effect exit
+  unfolding content_good exit_good
+  content_exit v m d i e =
+      e ∙ ap (λ (y : Context). judgement (exit_tests y effect exit)) i
+      ∙ sym (begin_admitted Refused Admitted (bad_element (context_of l s guest RunInput) input ∷ []) (exit_tests (context_of l s guest InEffect) effect exit) (judged ∙ d))
 
 -- ---- back from a run's target
 run_refused_same : (f g : Fault) → RunRefused f ≡ RunRefused g → f ≡ g

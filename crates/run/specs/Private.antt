@@ -1,17 +1,21 @@
 -- What inner functions give: a run's tests, as far as each function takes them.
-use Rattle.std.specs.Prelude.{ℕ, false, List}
+use Rattle.std.specs.Prelude.{ℕ, false, List, [], ◌∷◌}
 use Rattle.answer.specs.Refusals.{first_of}
 use Rattle.rules.specs.declared.Context.{Context}
 use Rattle.store.specs.declared.Layout.{Layout}
 use Rattle.admission.specs.declared.Admission.{Admission}
 use Rattle.admission.specs.Refusals.{judgement}
 use Rattle.admission.specs.Target.{base_of}
+use Rattle.state.specs.State.{bad_element}
 use Rattle.run.specs.declared.RunTarget.{RunTarget}
 use Rattle.run.specs.declared.RunTarget.TheVariants.{Refused, Slot}
 use Rattle.run.specs.Run.{input_size, lent_tests, exit_tests, run_target_tests, content_tests, run_tests}
 
 unfoldable pub lent_good : List ℕ → ℕ → ℕ → ℕ → ℕ → Admission
 lent_good s base need inputLength output_length = judgement (lent_tests s base need inputLength output_length)
+
+unfoldable pub input_good : Context → List ℕ → Admission
+input_good k input = judgement (bad_element k input ∷ [])
 
 unfoldable pub exit_good : Context → List ℕ → ℕ → Admission
 exit_good k effect exit = judgement (exit_tests k effect exit)

@@ -5,7 +5,7 @@ mod entry;
 
 ghost use Rattle.std.specs.Prelude.{◌≡◌, ◌+◌, ◌≤◌, length};
 ghost use Rattle.store.specs.Layout.{layout_of, slot_bytes};
-ghost use Rattle.run.specs.Private.{lent_good, exit_good, content_good, run_target_of, judged_run};
+ghost use Rattle.run.specs.Private.{lent_good, input_good, exit_good, content_good, run_target_of, judged_run};
 
 use admission::{Admission, Target, target_of};
 use answer::{Fault, Place, RunBuffer};
@@ -106,14 +106,25 @@ pub fn judge_exit(k: Context, effect: &[u8], exit: u64) -> Admission
     }
 }
 
+// The input's elements; k is the context of a run's input. Apart from the effect, so that the two take the same stack.
+fn judge_input(k: Context, input: &[u8]) -> Admission
+    requires { 4 ≤ length input.now }
+    ensures { result ≡ input_good k input.now }
+{
+    match first_bad(input, k) {
+        Walked::Stopped(bad, place) => Admission::Refused(Fault::Element(bad, place)),
+        Walked::Done => Admission::Admitted,
+    }
+}
+
 // The input's elements, then 13 and 14.
 fn judge_content(store: &[u8], guest: usize, input: &[u8], effect: &[u8], exit: u64) -> Admission
     requires { (length store.now ≡ (layout_of store.now).size) × (1 ≤ guest) × (guest ≤ (layout_of store.now).guests) × (4 ≤ length input.now) }
     ensures { result ≡ content_good (layout_of store.now) store.now guest input.now effect.now exit }
 {
-    match first_bad(input, context_of(store, guest, Usage::RunInput)) {
-        Walked::Stopped(bad, place) => return Admission::Refused(Fault::Element(bad, place)),
-        Walked::Done => {}
+    match judge_input(context_of(store, guest, Usage::RunInput), input) {
+        Admission::Refused(fault) => return Admission::Refused(fault),
+        Admission::Admitted => {}
     }
     judge_exit(context_of(store, guest, Usage::Effect), effect, exit)
 }
