@@ -15,6 +15,7 @@ static uint8_t *shallow_stack; /* its lowest byte */
 static size_t page;
 static volatile uintptr_t lowest; /* where the stack pointer was seen */
 static bool stepping;
+static unsigned room = DEPTH;
 
 /* Calls a function on the stack whose arguments end at top. The flags are set by way of the place that the return
    address then takes, and cleared on the ordinary stack. */
@@ -72,8 +73,8 @@ static void note_step(int number, siginfo_t *info, void *context)
 /* The signal of a step has a stack of its own. */
 static bool heed_steps(void)
 {
-    static uint8_t room[1 << 16];
-    stack_t other = { .ss_sp = room, .ss_size = sizeof room };
+    static uint8_t steps[1 << 16];
+    stack_t other = { .ss_sp = steps, .ss_size = sizeof steps };
     struct sigaction action = { .sa_sigaction = note_step, .sa_flags = SA_SIGINFO | SA_ONSTACK };
     return sigaltstack(&other, NULL) == 0 && sigaction(SIGTRAP, &action, NULL) == 0;
 }
@@ -93,15 +94,20 @@ void step_calls(bool stepped)
     stepping = stepped;
 }
 
+void set_room(unsigned bytes)
+{
+    room = bytes;
+}
+
 unsigned call_shallow(void (*function)(void), const uint64_t *words)
 {
-    uint8_t *top = shallow_stack + DEPTH;
+    uint8_t *top = shallow_stack + room;
     unsigned clean = 0;
-    memset(shallow_stack, PAINT, DEPTH);
+    memset(shallow_stack, PAINT, room);
     lowest = (uintptr_t)top;
     enter(function, words, top + PUSHED, stepping ? TRAP_FLAG : 0);
-    while (clean < DEPTH && shallow_stack[clean] == PAINT)
+    while (clean < room && shallow_stack[clean] == PAINT)
         clean++;
-    unsigned written = DEPTH - clean, reserved = (unsigned)((uintptr_t)top - lowest);
+    unsigned written = room - clean, reserved = (unsigned)((uintptr_t)top - lowest);
     return written > reserved ? written : reserved;
 }

@@ -16,6 +16,9 @@ enum { DEPTH = 512, ARGUMENTS = 16 };
 
 bool make_stack(void);
 
+/* How many bytes the next calls have, DEPTH if not told. */
+void set_room(unsigned bytes);
+
 /* Calls are stepped from now on, or no longer. A step takes some microseconds. */
 void step_calls(bool stepped);
 

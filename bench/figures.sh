@@ -63,5 +63,5 @@ $(block "make -s counts")
 
 ## Stack
 The deepest chain of calls from each exported function, return addresses included, from its machine code; the limit is 512 bytes.
-$(block 'bench/stack.sh target/staticlib/libadderknot.a 512 memset=$(target/bench/shallow --memset)')
+$(block 'bench/stack.sh target/staticlib/libadderknot.a 512 memset=$(target/bench/shallow --memset) "adk_tally<=640"')
 END

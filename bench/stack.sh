@@ -1,13 +1,14 @@
 #!/usr/bin/env bash
-# stack.sh FILE [LIMIT] [NAME=BYTES..]: the stack that each exported function (adk_..) of an x86-64 archive takes with all
+# stack.sh FILE [LIMIT] [NAME=BYTES | NAME<=BYTES ..]: the stack that each exported function (adk_..) of an x86-64 archive takes with all
 # that it calls, return addresses included, from its machine code: the deepest chain of calls. Fails if a chain is deeper
 # than LIMIT bytes (512), or meets what can't be followed: a call through a pointer, recursion, a frame whose size is not
-# fixed, or a call that leaves the file. NAME=BYTES says what a function outside takes, its return address not counted.
+# fixed, or a call that leaves the file. NAME=BYTES says what a function outside takes, its return address not counted;
+# NAME<=BYTES is a limit of its own for an exported function.
 #
 # A frame is pushes, what is subtracted from the stack pointer, and what is used below it (the red zone).
 set -u
 if [ $# -lt 1 ] || [ ! -r "$1" ]; then
-    echo "usage: stack.sh FILE [LIMIT] [NAME=BYTES..]" >&2
+    echo "usage: stack.sh FILE [LIMIT] [NAME=BYTES | NAME<=BYTES ..]" >&2
     exit 2
 fi
 file=$1
@@ -251,8 +252,13 @@ function chain(g,    text, seen) {
 
 BEGIN {
     count = split(measured, pair, " ")
-    for (i = 1; i <= count; i++)
-        took[substr(pair[i], 1, index(pair[i], "=") - 1)] = substr(pair[i], index(pair[i], "=") + 1)
+    for (i = 1; i <= count; i++) {
+        at = index(pair[i], "=")
+        if (substr(pair[i], at - 1, 1) == "<")
+            own_limit[substr(pair[i], 1, at - 2)] = substr(pair[i], at + 1) + 0
+        else
+            took[substr(pair[i], 1, at - 1)] = substr(pair[i], at + 1)
+    }
 }
 
 /file format/ {
@@ -323,10 +329,11 @@ END {
         exported++
         bytes = deep(g) + 8
         printf "%6d  %s\n", bytes, chain(g)
-        if (bytes > deepest)
+        most = plain_name(g) in own_limit ? own_limit[plain_name(g)] : limit
+        if (bytes > deepest && most == limit)
             deepest = bytes
-        if (doubts[g] != "" || bytes > limit) {
-            printf "failed stack %s: %s\n", plain_name(g), doubts[g] != "" ? doubts[g] : bytes " bytes, over " limit
+        if (doubts[g] != "" || bytes > most) {
+            printf "failed stack %s: %s\n", plain_name(g), doubts[g] != "" ? doubts[g] : bytes " bytes, over " most
             failed++
         }
     }

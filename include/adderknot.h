@@ -16,7 +16,8 @@
  *   counts some in a summary record. A call never changes what is lent through a pointer to const.
  * - Where several refusals apply, the first one in the order that the function's comment gives is the answer.
  * - Bits are numbered as in Power: bit 0 is the most significant of 64. ADK_BIT(n) is bit n.
- * - A call takes 512 bytes of stack at most, return addresses included, beside what the caller pushes as arguments.
+ * - A call takes 512 bytes of stack at most, and adk_tally 640, return addresses included, beside what the caller pushes
+ *   as arguments.
  */
 #ifndef ADDERKNOT_H
 #define ADDERKNOT_H

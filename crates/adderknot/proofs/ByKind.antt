@@ -15,7 +15,7 @@ use Rattle.run.specs.Run.{run_vcpu}
 use Rattle.guests.specs.Guests.{create_guest, create_vcpu, delete_guest}
 use Rattle.store.specs.Header.{offered}
 use Rattle.l0.specs.Calls.{get_capabilities, set_capabilities, outcome}
-use Rattle.l0.specs.Numbered.{CallRecord, Called, kind_name, called}
+use Rattle.l0.specs.Numbered.{CallRecord, called}
 use Rattle.l0.proofs.ByNumber.{name_other, call_other}
 use Rattle.adderknot.specs.Entries.{Left, tells, leaves, Filled, fills, Made, makes}
 

@@ -1,6 +1,6 @@
 -- A call by its number, in the form of its needs: each kind is a line of the table of calls, and past the eight there is none. Assumes nothing.
 use Rattle.std.proofs.Common.{◌≡◌, ℕ, zero, suc, List, [], ◌∷◌, get_or, sym, refl, ap, ◌∙◌}
-use mathlib.Core.Option.{Option, none}
+use mathlib.Core.Option.{none}
 use Rattle.answer.specs.declared.Answer.{Answer}
 use Rattle.answer.specs.declared.Call.{Call as Name}
 use Rattle.answer.specs.declared.Fault.TheVariants.{Record}

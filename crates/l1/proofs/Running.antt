@@ -35,7 +35,7 @@ use Rattle.store.proofs.Search.{both, every_all, every_at}
 use Rattle.store.proofs.Sizes.{layout_sound}
 use Rattle.transfer.specs.Transfer.{applied, AllReady}
 use Rattle.transfer.proofs.Moving.{length_applied}
-use Rattle.exits.specs.Exits.{known, returned, row_bytes, valued, output_of}
+use Rattle.exits.specs.Exits.{returned, row_bytes, valued, output_of}
 use Rattle.exits.proofs.Written.{valued_append, length_valued}
 use Rattle.exits.proofs.Rows.{length_output, output_short, returned_few}
 use Rattle.admission.specs.declared.Admission.{Admission}

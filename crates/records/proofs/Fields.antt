@@ -1,18 +1,17 @@
 -- A head's fields as digits of its three words and seven bytes. Assumes nothing.
 use mathlib.Core.Path.{◌≡◌, refl, sym, ap, ap₂, ◌∙◌}
 use mathlib.Core.List.{List}
-use Prim.Native.Nat.{ℕ, ◌+◌, ◌*◌, ◌/◌, ◌%◌, ◌^◌, ◌≤◌, ◌<◌}
+use Prim.Native.Nat.{ℕ, ◌+◌, ◌*◌, ◌/◌, ◌%◌, ◌^◌}
 use native.Mathlib.Omega.{arith}
 use native.Mathlib.Nat.{mod-lt}
 use mir.Syntax.{w8}
 use mir.Val.{Fits}
 use lib.Dec.{lit<}
-use lib.ListN.{length, get_or}
+use lib.ListN.{get_or}
 use lib.Pow.{high, low}
 use Rattle.octets.specs.Bytes.{be}
 use Rattle.octets.specs.Bits.{bits}
 use Rattle.octets.proofs.Bits.{bits_lt, bits_add, bits_within, bits_be}
-use Rattle.records.specs.declared.Head.{Head}
 use Rattle.records.specs.Record.{head_at, padding}
 use Rattle.records.specs.Private.{Heads}
 

@@ -2,7 +2,7 @@
 -- with room for every size that can be registered, it is one. Assumes nothing.
 use mathlib.Core.Path.{◌≡◌, refl, sym, ap, ◌∙◌}
 use mathlib.Core.Bool.{Bool, true, false, not, ◌&&◌, ◌||◌, cond, true≢false}
-use mathlib.Core.List.{List, [], ◌∷◌, ◌++◌, append_assoc}
+use mathlib.Core.List.{List, ◌∷◌, ◌++◌, append_assoc}
 use Prim.Native.Nat.{ℕ, zero, suc, ◌≤◌}
 use native.Mathlib.Omega.{arith}
 use lib.Dec.{leb, ltb}
@@ -26,7 +26,7 @@ use Rattle.admission.proofs.Judging.{settle, settle_all, settle_append}
 use Rattle.run.specs.Run.{run_bits, input_size, output_size, lent_tests, input_of, content_tests, run_tests, ran, run_vcpu}
 use Rattle.l0.specs.Calls.{outcome}
 use Rattle.l0.specs.Numbered.{CallRecord, called}
-use Rattle.records.specs.Replay.{Turn, turn_of, turn, registered_output, output_lent}
+use Rattle.records.specs.Replay.{turn_of, turn, output_lent}
 
 -- a test that differs only where one before it holds
 judged_alike : (a b c d e : Bool) (p q r t : Fault) (xs : List (Bool × Fault)) → (b ≡ false → d ≡ e)

@@ -1,13 +1,13 @@
 -- The records of some bytes one after the other, as the loop plays them. Assumes nothing.
 use mathlib.Core.Path.{◌≡◌, refl, sym, ap, ap₂, subst, ◌∙◌}
 use mathlib.Core.Bool.{Bool, true, false, ◌&&◌, cond, true≢false}
-use mathlib.Core.List.{List, [], ◌++◌, append-nil}
-use Prim.Native.Nat.{ℕ, zero, suc, ◌+◌, ◌-◌, ◌*◌, ◌/◌, ◌^◌, ◌≤◌, ◌<◌}
+use mathlib.Core.List.{List, [], ◌++◌}
+use Prim.Native.Nat.{ℕ, zero, suc, ◌+◌, ◌-◌, ◌*◌, ◌^◌, ◌≤◌, ◌<◌}
 use native.Mathlib.Omega.{arith}
 use lib.Dec.{leb, eqb}
 use lib.ListN.{length, length-append}
 use borrow.Author.Tests.{lt-leb, leb-true}
-use Rattle.octets.specs.Bytes.{bytes_at, put}
+use Rattle.octets.specs.Bytes.{put}
 use Rattle.octets.proofs.Bytes.{put_nil, put_append}
 use Rattle.octets.proofs.Bits.{bits_lt}
 use Rattle.text.specs.Text.{Printed}
@@ -17,7 +17,6 @@ use Rattle.store.specs.Layout.{layout_of, large, small}
 use Rattle.records.specs.declared.Head.{Head}
 use Rattle.records.specs.declared.Read.{Read}
 use Rattle.records.specs.declared.Read.TheVariants.{Record, Cut, Bad}
-use Rattle.records.specs.declared.playing.Stop.{Stop}
 use Rattle.records.specs.Record.{is_kind, head_at, record_at, record_length, head_good, read_head}
 use Rattle.records.specs.Replay.{Turn, turn, record_line, Played, behind, on_record, played, played_all, is_record, is_bad}
 use Rattle.records.specs.Private.{Stopped, stopped}

@@ -2,19 +2,18 @@
 use mathlib.Core.Path.{◌≡◌, refl, sym, ap, ap₂, ◌∙◌}
 use mathlib.Core.Bool.{Bool, true, false, ◌&&◌, cond, true≢false}
 use mathlib.Core.List.{List, ◌++◌}
-use Prim.Native.Nat.{ℕ, ◌+◌, ◌*◌, ◌^◌, ◌≤◌, ◌<◌}
+use Prim.Native.Nat.{ℕ, ◌+◌, ◌^◌, ◌≤◌, ◌<◌}
 use native.Mathlib.Omega.{arith}
 use native.Mathlib.Nat.{add-zero}
 use lib.Dec.{leb, eqb}
-use lib.ListN.{length, get_or, take, drop, take-append-drop}
+use lib.ListN.{length, get_or, drop, take-append-drop}
 use borrow.Author.Tests.{lt-ltb, eqb-true}
-use Rattle.octets.specs.Bytes.{bytes_at, be, digits}
+use Rattle.octets.specs.Bytes.{bytes_at, digits}
 use Rattle.octets.specs.Bits.{bits}
 use Rattle.octets.proofs.Bytes.{length_bytes_at, part_append}
 use Rattle.octets.proofs.Numbers.{digits_be}
 use Rattle.octets.proofs.Bits.{bits_lt, bits_add, bits_be}
 use Rattle.records.specs.declared.Head.{Head}
-use Rattle.records.specs.declared.Read.{Read}
 use Rattle.records.specs.declared.Read.TheVariants.{Record, Cut, Bad}
 use Rattle.records.specs.Record.{is_kind, head_at, padding, record_at, record_length, head_good, read_head}
 use Rattle.records.specs.Write.{head_of, head_number, packed, fits_head, fits_record, Words}

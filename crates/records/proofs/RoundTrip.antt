@@ -7,7 +7,7 @@ use native.Mathlib.Omega.{arith}
 use native.Mathlib.Nat.{add-zero, zero-add, mod-eq_of_lt}
 use lib.Dec.{ltb}
 use lib.ListN.{length, get_or, drop, length-append}
-use lib.Pow.{pow_pos, shl-shr, shr-shr, high, low, field, mod-mod-pow}
+use lib.Pow.{shl-shr, shr-shr, high, low, field, mod-mod-pow}
 use borrow.Author.Tests.{le-leb, ltb-false}
 use Rattle.octets.specs.Bytes.{bytes_at, put, digits}
 use Rattle.octets.specs.Bits.{bits}
@@ -18,9 +18,8 @@ use Rattle.answer.specs.declared.Fault.TheVariants.{None, Short, Record as BadRe
 use Rattle.answer.specs.Refusals.{first_of}
 use Rattle.l0.specs.Numbered.{CallRecord}
 use Rattle.records.specs.declared.Head.{Head}
-use Rattle.records.specs.declared.Read.TheVariants.{Record}
-use Rattle.records.specs.Record.{is_kind, head_at, padding, record_at, read_head}
-use Rattle.records.specs.Write.{head_of, head_number, packed, fits_head, fits_record, Written, unwritten, write_record, Words, ReadAs, RoundTrip}
+use Rattle.records.specs.Record.{head_at, padding, record_at}
+use Rattle.records.specs.Write.{head_of, head_number, packed, fits_record, Written, unwritten, write_record, Words, ReadAs, RoundTrip}
 use Rattle.records.specs.Private.{Narrow, Heads}
 use Rattle.records.proofs.Appended.{put_first, part_first, bits_first, part_second, bits_second}
 use Rattle.records.proofs.Tests.{accepted}

@@ -1,5 +1,5 @@
 -- A line by its parts, and the call that it tells of. Assumes nothing.
-use mathlib.Core.Path.{◌≡◌, refl, sym, ap, ap₂, ◌∙◌}
+use mathlib.Core.Path.{◌≡◌, sym, ap, ap₂, ◌∙◌}
 use mathlib.Core.List.{List, ◌++◌}
 use Prim.Native.Nat.{ℕ, ◌+◌, ◌-◌, ◌≤◌}
 use native.Mathlib.Omega.{arith}
@@ -16,7 +16,7 @@ use Rattle.answer.specs.Answer.{told}
 use Rattle.store.specs.declared.Layout.{Layout}
 use Rattle.l0.specs.Numbered.{CallRecord, Called, kind_name, called}
 use Rattle.records.specs.declared.Head.{Head}
-use Rattle.records.specs.Record.{head_at, record_at, record_length}
+use Rattle.records.specs.Record.{head_at, record_at}
 use Rattle.records.specs.Replay.{Turn, turn_of, turn, field, record_line, bad_line}
 use Rattle.records.proofs.Lent.{turn_same}
 

@@ -1,5 +1,5 @@
 -- 02, L9: what the program `replay` prints for the bytes on its standard input.
-use Rattle.std.specs.Prelude.{ℕ, zero, suc, ◌+◌, ◌-◌, ◌/◌, ◌^◌, ◌≤◌, Bool, true, false, not, ◌&&◌, ◌||◌, cond, List, [], ◌++◌, leb, ltb, length}
+use Rattle.std.specs.Prelude.{ℕ, zero, suc, ◌+◌, ◌-◌, ◌/◌, ◌^◌, ◌≤◌, Bool, true, false, not, ◌&&◌, ◌||◌, cond, List, [], ◌++◌, ltb, length}
 use Rattle.octets.specs.Bytes.{bytes_at, put, zeros}
 use Rattle.text.specs.Text.{ascii, decimal}
 use Rattle.answer.specs.declared.Registers.{Registers}

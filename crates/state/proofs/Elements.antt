@@ -19,7 +19,7 @@ use Rattle.rules.specs.declared.Usage.{Usage}
 use Rattle.rules.specs.declared.Usage.TheVariants.{ThreadGet}
 use Rattle.elements.specs.declared.Entry.{Entry}
 use Rattle.elements.specs.declared.Kind.{Kind}
-use Rattle.elements.specs.declared.Kind.TheVariants.{Unlisted, Nop, Listed}
+use Rattle.elements.specs.declared.Kind.TheVariants.{Nop, Listed}
 use Rattle.elements.specs.declared.Element.{Element as ThreadElement}
 use Rattle.elements.specs.declared.Offer.TheVariants.{Full}
 use Rattle.elements.specs.Later.{offers}
@@ -36,7 +36,6 @@ use Rattle.gsb.proofs.Walks.{offset_start}
 use Rattle.gsb.proofs.RoundTrip.{begins_self, wire_one, listed_fits, message_size, message_value, one_bad_length, one_element}
 use Rattle.store.specs.declared.Layout.{Layout}
 use Rattle.store.specs.Layout.{slot_bytes}
-use Rattle.store.specs.Header.{header, capabilities_of}
 use Rattle.transfer.specs.Transfer.{filled}
 use Rattle.transfer.proofs.Messages.{filled_value_one}
 use Rattle.admission.specs.declared.Admission.TheVariants.{Admitted}

@@ -1,12 +1,12 @@
 -- An answer of 0 says that every test was passed; what that tells of a set's buffer, and of a run's input and exit reason. A store of another
 -- length is answered 1. Assumes nothing.
-use mathlib.Core.Path.{◌≡◌, refl, sym, ap, ap₂, ◌∙◌, subst}
+use mathlib.Core.Path.{◌≡◌, refl, sym, ap, ◌∙◌}
 use mathlib.Core.Bool.{Bool, true, false, not, ◌&&◌, ◌||◌, cond}
 use mathlib.Core.List.{List, [], ◌∷◌, ◌++◌}
-use Prim.Native.Nat.{ℕ, zero, suc, ◌+◌, ◌^◌, ◌<◌, ◌≤◌}
+use Prim.Native.Nat.{ℕ, ◌^◌, ◌<◌, ◌≤◌}
 use native.Mathlib.Omega.{arith}
 use borrow.Author.Tests.{ltb-false, leb-false, eqb-true, not-false, ne_eqb}
-use lib.Dec.{eqb, ltb}
+use lib.Dec.{eqb}
 use lib.ListN.{length}
 use Rattle.octets.proofs.Bytes.{length_bytes_at}
 use Rattle.answer.specs.declared.Answer.{Answer}
@@ -20,20 +20,20 @@ use Rattle.rules.specs.declared.Context.{Context}
 use Rattle.rules.specs.declared.Usage.TheVariants.{RunInput, Effect as InEffect}
 use Rattle.gsb.specs.declared.Walked.{Walked}
 use Rattle.gsb.specs.declared.Walked.TheVariants.{Done, Stopped}
-use Rattle.gsb.specs.Walk.{count_of, offset_at, bad_length, first_bad, is_stopped, fault_of}
+use Rattle.gsb.specs.Walk.{first_bad, is_stopped, fault_of}
 use Rattle.store.specs.declared.Layout.{Layout}
 use Rattle.store.specs.Layout.{Sound}
-use Rattle.store.specs.Header.{header, slot_of, head_good, words_good}
+use Rattle.store.specs.Header.{header, head_good, words_good}
 use Rattle.store.specs.Store.{well_formed}
 use Rattle.admission.specs.Refusals.{Outcome, refuse, refusal, decide, Passed, has_bit0, hands_over}
-use Rattle.admission.specs.Target.{target_tests, vcpu_tests, base_of, slot_named}
+use Rattle.admission.specs.Target.{target_tests, base_of, slot_named}
 use Rattle.exits.specs.Exits.{exits, is_among, known}
 use Rattle.state.specs.State.{context_of, buffer_tests, set_use, supported_bits, set_elements, set_state, get_elements, get_state}
 use Rattle.state.specs.HandOver.{take_vcpu, give_vcpu}
 use Rattle.state.specs.Private.{bytes_for}
 use Rattle.state.proofs.Buffers.{ready_as}
-use Rattle.run.specs.Run.{input_size, input_of, lent_tests, effect_fault, exit_tests, content_tests, run_target_tests, run_tests, run_bits, run_vcpu}
-use Rattle.run.proofs.Runs.{RunFound, run_found, stopped_not}
+use Rattle.run.specs.Run.{input_size, input_of, lent_tests, effect_fault, exit_tests, content_tests, run_target_tests, run_bits, run_vcpu}
+use Rattle.run.proofs.Runs.{run_found, stopped_not}
 use Rattle.guests.specs.Guests.{create_vcpu, delete_guest}
 use Rattle.tally.specs.Tally.{all_set}
 use Rattle.tally.specs.Private.{set_in}

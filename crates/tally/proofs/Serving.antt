@@ -1,16 +1,15 @@
 -- What `serve` leaves is the layer's outcome, kind by kind: where the store has another length the call is answered 1 and changes nothing; else the
 -- slots are those of the definition, and where the answer is 0 the elements counted are its too. Assumes nothing.
-use mathlib.Core.Path.{◌≡◌, refl, sym, ap, ap₂, ◌∙◌, subst}
+use mathlib.Core.Path.{◌≡◌, refl, sym, ap, ap₂, ◌∙◌}
 use mathlib.Core.Logic.{◌≢◌}
 use mathlib.Core.Bool.{Bool, true, false, cond}
-use mathlib.Core.List.{List, [], ◌∷◌}
-use mathlib.Core.Option.{Option}
-use Prim.Native.Nat.{ℕ, zero, suc, ◌%◌, ◌^◌, ◌<◌, ◌≤◌}
+use mathlib.Core.List.{List}
+use Prim.Native.Nat.{ℕ, zero, suc, ◌%◌, ◌^◌}
 use native.Mathlib.Nat.{mod-eq_of_lt}
 use native.Mathlib.Omega.{arith}
 use borrow.Author.Tests.{eq-eqb, ne_eqb, eqb-true, eqb-false}
 use lib.Dec.{eqb}
-use lib.ListN.{length, get_or}
+use lib.ListN.{length}
 use Rattle.octets.specs.Bytes.{bytes_at}
 use Rattle.octets.proofs.Bytes.{whole}
 use Rattle.answer.specs.declared.Answer.{Answer}
@@ -19,14 +18,13 @@ use Rattle.answer.specs.declared.Fault.TheVariants.{Store, Records}
 use Rattle.answer.specs.Answer.{told}
 use Rattle.store.specs.declared.Layout.{Layout}
 use Rattle.store.specs.Layout.{Sound, slot_at, layout_of}
-use Rattle.store.specs.Header.{header, free_slot}
 use Rattle.store.proofs.Sizes.{sized_sound}
-use Rattle.admission.specs.Refusals.{Outcome, refusal, has_bit0, hands_over}
+use Rattle.admission.specs.Refusals.{refusal, has_bit0, hands_over}
 use Rattle.admission.specs.Target.{slot_named, base_of}
 use Rattle.state.specs.State.{get_state, set_state}
 use Rattle.run.specs.Run.{input_size, input_of, run_vcpu}
 use Rattle.guests.specs.Guests.{create_vcpu, delete_guest}
-use Rattle.l0.specs.Calls.{Call, outcome}
+use Rattle.l0.specs.Calls.{outcome}
 use Rattle.l0.specs.Numbered.{CallRecord, Called, call_of, called}
 use Rattle.tally.specs.declared.Summary.{Summary}
 use Rattle.tally.specs.declared.Change.{Change}
@@ -34,7 +32,7 @@ use Rattle.tally.specs.declared.Change.TheVariants.{Nothing, Renewed, Set, Ran}
 use Rattle.tally.specs.declared.Touched.{Touched}
 use Rattle.tally.specs.declared.Served.{Served}
 use Rattle.tally.specs.Tally.{Tallied, all_set, refused_by, on_success, dropped, noted, noted_by, r3_of, beside, counted, tallied}
-use Rattle.tally.specs.Private.{set_in, mask_of, noted_at, one, no_slot, touched_by, get_change, set_change, run_change, change_for, HeldBytes, Serves}
+use Rattle.tally.specs.Private.{set_in, noted_at, no_slot, touched_by, get_change, set_change, run_change, change_for, HeldBytes, Serves}
 use Rattle.tally.proofs.Noting.{noted_nothing, at_nothing, one_noted, mask_noted}
 use Rattle.tally.proofs.Accepted.{Ran as Accepts, set_accepted, run_accepted, no_create, no_delete, no_get, no_set, no_run}
 

@@ -1,6 +1,5 @@
 use Rattle.l1.proofs.Clearing.{clear_start, clear_turn, clear_end}
 use mathlib.Core.Path.{refl}
-use Prim.Native.Nat.{◌-◌}
 use borrow.Author.Rules.{rules}
 use Rattle.l1.proofs.marks.clear_marks.Goals as goal
 

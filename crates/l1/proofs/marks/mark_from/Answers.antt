@@ -1,5 +1,4 @@
 use Rattle.l1.proofs.Words.{from_hit, from_miss, from_end}
-use Prim.Native.Nat.{◌-◌}
 use mathlib.Core.Path.{refl}
 use borrow.Author.Rules.{rules}
 use Rattle.l1.proofs.marks.mark_from.Goals as goal

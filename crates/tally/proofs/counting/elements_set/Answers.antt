@@ -1,4 +1,3 @@
-use Prim.Native.Nat.{◌-◌}
 use borrow.Author.Rules.{rules}
 use Rattle.tally.proofs.Counted.{in_short, count_start, count_cut, count_done, count_more}
 use Rattle.tally.proofs.counting.elements_set.Goals as goal

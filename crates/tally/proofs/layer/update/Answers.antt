@@ -1,4 +1,4 @@
-use Rattle.std.proofs.Common.{◌≡◌, ◌<◌, suc, length, ◌+◌, ◌/◌, List, slice_set, get_or, sym, ap, ◌∙◌, add-one}
+use Rattle.std.proofs.Common.{◌≡◌, suc, length, ◌/◌, slice_set, get_or, sym, ap, ◌∙◌, add-one}
 use Rattle.std.proofs.lemmas.List.{get_or_default}
 use Rattle.tally.specs.declared.Summary.{Summary}
 use Rattle.tally.specs.Tally.{new_record}

@@ -1,4 +1,3 @@
-use Prim.Native.Nat.{◌-◌}
 use borrow.Author.Rules.{rules}
 use Rattle.tally.proofs.Touching.{mask_start, mask_more, mask_doubled, mask_added, mask_done}
 use Rattle.tally.proofs.slots.dropped_slots.Goals as goal

@@ -1,5 +1,4 @@
 use Rattle.l1.proofs.Pending.{mark_here, mark_left, mark_above, mark_within, walk_start, walk_at, walk_room, walk_put, put_start, put_end, element_inside, element_small}
-use Prim.Native.Nat.{◌-◌}
 use borrow.Author.Rules.{rules}
 use Rattle.l1.proofs.flush.input.put_changed.Goals as goal
 

@@ -1,6 +1,5 @@
 use Rattle.l1.proofs.Pending.{mark_here, mark_left, mark_above, mark_within, walk_start, walk_at}
 use Rattle.l1.proofs.Lacking.{lack_start, lack_none, index_fits, offset_fits, step_fits, lack_found, lack_index, lack_turn, lack_end}
-use Prim.Native.Nat.{◌-◌}
 use borrow.Author.Rules.{rules}
 use Rattle.l1.proofs.flush.lacking.first_lacked.Goals as goal
 

@@ -1,6 +1,5 @@
 use Rattle.l1.proofs.Refreshing.{keeps_long, keeps_at, keeps_start, keeps_turn, keeps_end, next_offset}
 use Rattle.gsb.proofs.Walks.{offset_start}
-use Prim.Native.Nat.{◌-◌}
 use borrow.Author.Rules.{rules}
 use Rattle.l1.proofs.flush.output.refresh.Goals as goal
 
