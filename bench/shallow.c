@@ -451,16 +451,10 @@ static void read_computed(void)
         pclose(said);
 }
 
-/* What no call reaches of what is computed. A set and a run are deepest in transfer::apply, which copies as many bytes as
-   the buffer says. For sizes that no element has, which no accepted buffer holds, its code has a loop that keeps one word
-   more in the red zone. A conversion tests a small store; in the same function the test of a large one has a filter of 64
-   bytes and a word beside it. */
+/* What no call reaches of what is computed. A conversion tests a small store; in the same function the test of a large one
+   has a filter of 64 bytes and a word beside it. */
 static unsigned out_of_reach(const char *name)
 {
-    static const char *const applying[] = { "set_state", "run_vcpu", "call", "tally" };
-    for (unsigned i = 0; i < sizeof applying / sizeof applying[0]; i++)
-        if (strcmp(name, applying[i]) == 0)
-            return 8;
     return strcmp(name, "convert") == 0 ? 72 : 0;
 }
 

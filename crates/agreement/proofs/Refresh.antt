@@ -8,7 +8,7 @@ use lib.ListN.{length, get_or, take}
 use lib.Seq.{take-suc, take-length}
 use Rattle.octets.specs.Bytes.{put, zeros}
 use Rattle.octets.proofs.Bytes.{length_zeros}
-use Rattle.elements.specs.Table.{position, number_of, thread_element}
+use Rattle.elements.specs.Table.{number_of, thread_element}
 use Rattle.rules.specs.Rules.{good_input, good_output}
 use Rattle.gsb.specs.Walk.{count_of}
 use Rattle.gsb.specs.Message.{message, Begins}

@@ -22,7 +22,7 @@ use Rattle.rules.specs.declared.Usage.TheVariants.{RunInput, Effect as InEffect}
 use Rattle.rules.specs.Rules.{good_input, good_output}
 use Rattle.gsb.specs.declared.Walked.{Walked}
 use Rattle.gsb.specs.declared.Walked.TheVariants.{Done, Stopped}
-use Rattle.gsb.specs.Walk.{count_of, bad_length, first_bad, is_stopped, fault_of}
+use Rattle.gsb.specs.Walk.{count_of, first_bad, is_stopped, fault_of}
 use Rattle.gsb.specs.Message.{message, Begins}
 use Rattle.gsb.proofs.RoundTrip.{begins_self, begins_put, begins_first, zeros_good}
 use Rattle.store.specs.declared.Layout.{Layout}
@@ -32,7 +32,7 @@ use Rattle.store.proofs.Search.{both}
 use Rattle.store.proofs.Tests.{live_parts}
 use Rattle.transfer.specs.Transfer.{applied}
 use Rattle.transfer.proofs.Messages.{applied_zeros}
-use Rattle.exits.specs.Exits.{known, returned, valued, output_of}
+use Rattle.exits.specs.Exits.{returned, valued, output_of}
 use Rattle.exits.proofs.Rows.{length_output, output_short, returned_few}
 use Rattle.admission.specs.declared.Admission.{Admission}
 use Rattle.admission.specs.declared.Admission.TheVariants.{Admitted, Refused}

@@ -1,6 +1,6 @@
 -- Set and get state of one element: what the plain L1 makes of a write and of a read. Assumes nothing.
 use mathlib.Core.Path.{◌≡◌, refl, sym, ap, ap₂, ◌∙◌}
-use mathlib.Core.Bool.{Bool, true, false, not, ◌&&◌, cond}
+use mathlib.Core.Bool.{Bool, true, false, not, cond}
 use mathlib.Core.List.{List, [], ◌∷◌}
 use Prim.Native.Nat.{ℕ, ◌+◌, ◌^◌, ◌<◌}
 use native.Mathlib.Omega.{arith}
@@ -14,7 +14,7 @@ use Rattle.answer.specs.declared.Fault.TheVariants.{Length, Element}
 use Rattle.answer.specs.Refusals.{first_of}
 use Rattle.rules.specs.declared.Usage.{Usage}
 use Rattle.rules.specs.declared.Usage.TheVariants.{ThreadGet, ThreadSet, RunInput}
-use Rattle.elements.specs.Table.{kind_of, position}
+use Rattle.elements.specs.Table.{kind_of}
 use Rattle.rules.specs.Rules.{size_fits, good_value}
 use Rattle.rules.proofs.Rules.{value_get, value_run}
 use Rattle.gsb.specs.declared.Walked.{Walked}

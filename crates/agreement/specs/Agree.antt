@@ -1,6 +1,6 @@
 -- Demand 3: "For every list of cache writes, reads and runs on that vCPU, refused ones included, and whatever calls on other guests stand
 -- between them, every answer is the same for both". The theorem is `cache_agrees`.
-use Rattle.std.specs.Prelude.{ℕ, zero, suc, ◌+◌, ◌^◌, ◌≤◌, ◌<◌, ◌≡◌, Bool, true, false, ◌&&◌, cond, List, [], ◌∷◌, ◌++◌, eqb, length}
+use Rattle.std.specs.Prelude.{ℕ, zero, suc, ◌^◌, ◌≤◌, ◌<◌, ◌≡◌, Bool, true, false, ◌&&◌, cond, List, [], ◌∷◌, ◌++◌, eqb, length}
 use Rattle.octets.specs.Bytes.{bytes_at, put, zeros}
 use Rattle.answer.specs.declared.Answer.{Answer}
 use Rattle.answer.specs.declared.Call.{Call as Name}

@@ -2,13 +2,11 @@
 -- whatever guest-wide sets, and so whatever PVRs, stand between. Assumes nothing.
 use mathlib.Core.Path.{◌≡◌, refl, sym, ap, ◌∙◌}
 use mathlib.Core.Logic.{◌≢◌}
-use mathlib.Core.Bool.{Bool, true, false, not, ◌&&◌}
+use mathlib.Core.Bool.{true, not, ◌&&◌}
 use mathlib.Core.List.{List, [], ◌∷◌}
 use Prim.Native.Nat.{ℕ}
 use borrow.Author.Tests.{eq-eqb, ne_eqb}
 use Rattle.octets.specs.Bytes.{bytes_at}
-use Rattle.answer.specs.declared.Fault.{Fault}
-use Rattle.answer.specs.declared.Fault.TheVariants.{None}
 use Rattle.elements.specs.declared.Offer.{Offer}
 use Rattle.elements.specs.declared.Offer.TheVariants.{Full, Power9}
 use Rattle.elements.specs.Table.{kind_of}
@@ -22,9 +20,9 @@ use Rattle.store.specs.declared.Layout.{Layout}
 use Rattle.store.specs.Layout.{Sound, slot_bytes, slot_at}
 use Rattle.store.specs.Header.{header, capabilities_of, slot_of}
 use Rattle.transfer.specs.Transfer.{value_at}
-use Rattle.admission.specs.Refusals.{Outcome, bit0, has_bit0, hands_over}
+use Rattle.admission.specs.Refusals.{Outcome, bit0, has_bit0}
 use Rattle.admission.specs.Target.{base_of}
-use Rattle.state.specs.State.{pvr_of, context_of, set_elements, set_state, get_elements, get_state}
+use Rattle.state.specs.State.{pvr_of, context_of, set_elements, set_state}
 use Rattle.state.proofs.HandOvers.{get_plain, set_plain}
 use Rattle.l0.specs.Calls.{GetState, SetState, outcome, after}
 use Rattle.promises.specs.History.{is_accepted}

@@ -10,8 +10,7 @@ use native.Mathlib.Decide.{ℕ_discrete}
 use lib.Dec.{eqb}
 use lib.ListN.{length}
 use borrow.Author.Tests.{eq-eqb, ne_eqb, le-leb, lt-leb, eqb-true, ltb-false}
-use Rattle.octets.specs.Bytes.{bytes_at, zeros}
-use Rattle.octets.specs.Bits.{bit, bits}
+use Rattle.octets.specs.Bytes.{zeros}
 use Rattle.answer.specs.declared.Fault.{Fault}
 use Rattle.gsb.specs.Walk.{count_of}
 use Rattle.transfer.specs.Transfer.{applied}
