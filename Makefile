@@ -192,12 +192,12 @@ $(bench)/score-vendor: bench/host.c bench/window.c $(filter-out bench/tell.c,$(n
 	mkdir -p $(bench)
 	$(CC) $(CFLAGS) -Iinclude $(filter %.c,$^) -ldl -o $@
 
-# The examples of README.md, as they stand there: its first blocks of C.
+# The examples of README.md, as they stand there: its blocks of C, but the fourth, which begins a vendor's library.
 $(bench)/example: block = 1
 $(bench)/hand-over: block = 2
 $(bench)/join: block = 3
-$(bench)/tally: block = 4
-$(bench)/judge-output: block = 5
+$(bench)/tally: block = 5
+$(bench)/judge-output: block = 6
 $(bench)/example $(bench)/hand-over $(bench)/join $(bench)/tally $(bench)/judge-output: README.md $(wildcard include/*.h) $(archive)
 	mkdir -p $(bench)
 	awk -v n=$(block) '/^```c$$/ { on = ++seen == n; next } /^```$$/ { on = 0 } on' README.md > $@.c

@@ -142,10 +142,10 @@ void csv_score(FILE *to, const struct result *r)
     row(to, "night", "calls", "agreed", f->agreed);
     row(to, "night", "calls", "not made", r->order->calls - f->made);
     rows_of_disagreements(to, f);
-    if (r->order->manner.opaque) {
+    if (r->order->judge_outputs)
         rows_of_outputs(to, &f->outputs);
+    if (r->order->manner.opaque)
         rows_of_touched(to, &f->touched);
-    }
     rows_of_cover(to, &f->cover, r->order->manner);
     row(to, "verdict", r->order->vendor, verdict_name(r->verdict), r->verdict);
 }

@@ -27,8 +27,8 @@ struct told {
     char text[TOLD_SIZE];
 };
 
-/* Of nights by calls: the runs that both sides accepted, those whose output is not the library's byte for byte, and of
-   these the ones refused (judge.h). */
+/* Where outputs are judged: the runs that both sides accepted, those whose output is not the library's byte for byte,
+   and of these the ones refused (judge.h). */
 struct outputs {
     uint64_t all, other, refused;
 };

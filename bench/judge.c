@@ -37,7 +37,7 @@ static unsigned differing_bytes(const struct call *c, bool ours, size_t judged)
 
 bool has_own_output(const struct made *m, const struct vendor *v)
 {
-    return v->keeps_store && is_run(m->call.kind) && m->deed.returned && m->ours.r3 == ADK_OK && !m->answers_differ;
+    return v->orders_outputs && is_run(m->call.kind) && m->deed.returned && m->ours.r3 == ADK_OK && !m->answers_differ;
 }
 
 /* A run changes no registration, so the size before it is that after it. */

@@ -1,9 +1,10 @@
 /*
  * judge.h: one call made on the library and on a vendor's, and what differs after it.
  *
- * A vendor that keeps its own state may put the elements of an output in its own order and add NOPs: where both sides
- * accept a run, its output is judged by adk_judge_output and the library's store after the run (02, L10). The output is
- * the vendor's up to the registered size; bytes behind that stay. Every other buffer is compared byte for byte.
+ * Every buffer is compared byte for byte. With --judge-outputs a vendor that keeps its own state may put the elements
+ * of an output in its own order and add NOPs: where both sides accept a run, its output is judged by adk_judge_output
+ * and the library's store after the run (02, L10). It is then the vendor's up to the registered size; bytes behind that
+ * stay.
  */
 #ifndef JUDGE_H
 #define JUDGE_H

@@ -73,6 +73,12 @@ static bool set_opaque(struct order *o, const char *value)
     return o->manner.opaque = true;
 }
 
+static bool set_judge_outputs(struct order *o, const char *value)
+{
+    (void)value;
+    return o->judge_outputs = true;
+}
+
 static bool set_large(struct order *o, const char *value)
 {
     (void)value;
@@ -119,6 +125,9 @@ static const struct option {
     { "--opaque", NULL, set_opaque, NULL,
       "for a vendor that keeps its own state: what it keeps changes by calls only,\n"
       "and nothing of the lent store is written or compared" },
+    { "--judge-outputs", NULL, set_judge_outputs, NULL,
+      "a run's output may have its elements in any order, and NOPs among them: it is\n"
+      "judged by them, and not compared byte for byte; only with --opaque" },
     { "--large", NULL, set_large, NULL,
       "a night of the large store, of 63 guests and 64 slots; some of its stores are small\n"
       "ones that are converted, if the vendor exports adk_convert" },
@@ -140,12 +149,18 @@ static const struct option {
     { "--help", NULL, set_help, NULL, "this text; so does -h" },
 };
 
+enum { NAME_COLUMNS = 10, HELP_COLUMN = 19 };
+
+/* A name that is longer than its columns, and then has no value, stands on a line of its own. */
 static void print_option(FILE *to, const struct option *option)
 {
-    fprintf(to, "  %-10s %-5s ", option->name, option->value == NULL ? "" : option->value);
+    if (strlen(option->name) > NAME_COLUMNS)
+        fprintf(to, "  %s\n%*s", option->name, HELP_COLUMN, "");
+    else
+        fprintf(to, "  %-*s %-5s ", NAME_COLUMNS, option->name, option->value == NULL ? "" : option->value);
     for (const char *c = option->help; *c != '\0'; c++)
         if (*c == '\n')
-            fprintf(to, "\n%19s", "");
+            fprintf(to, "\n%*s", HELP_COLUMN, "");
         else
             fputc(*c, to);
     fputc('\n', to);
@@ -236,6 +251,8 @@ bool read_order(struct order *o, int argc, char **argv)
             return false;
     if (o->only != 0 && o->report != NULL)
         return unfit("--report", o->report, "not together with --only, which tells one call");
+    if (o->judge_outputs && !o->manner.opaque)
+        return unfit("--judge-outputs", NULL, "only with --opaque, since every byte is compared without that");
     if (!fit_recording(o, "--record", o->record) || !fit_recording(o, "--answers", o->answers))
         return false;
     if (o->record != NULL || o->answers != NULL)
@@ -271,7 +288,8 @@ void print_command(FILE *to, const struct order *o, uint64_t number)
     print_word(to, o->program);
     fprintf(to, " --vendor ");
     print_word(to, o->vendor);
-    fprintf(to, "%s%s%s --seed 0x%" PRIX64, o->manner.opaque ? " --opaque" : "", o->manner.large ? " --large" : "",
+    fprintf(to, "%s%s%s%s --seed 0x%" PRIX64, o->manner.opaque ? " --opaque" : "",
+            o->judge_outputs ? " --judge-outputs" : "", o->manner.large ? " --large" : "",
             o->manner.only_nops ? " --nops" : "", o->seed);
     if (o->seconds != USUAL_SECONDS)
         fprintf(to, " --limit %" PRIu64, o->seconds);

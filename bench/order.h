@@ -17,6 +17,7 @@ struct order {
     uint64_t jobs;
     uint64_t seconds;       /* how long a call may take */
     struct manner manner;
+    bool judge_outputs;     /* a run's output is judged and not compared byte for byte (judge.h) */
     bool csv;
     const char *report;     /* the page's file, or NULL */
     const char *record;     /* the file of the calls' records, or NULL */

@@ -173,6 +173,15 @@ static void put_store(FILE *to, struct manner m, const struct cover *v)
     fprintf(to, "%" PRIu64 " of %u guests, %" PRIu64 " of %u slots</dd>\n", v->guests, l->guests, v->slots, l->slots);
 }
 
+/* Where the vendor keeps its state, and what is compared. */
+static const char *way_of(const struct order *o)
+{
+    if (o->judge_outputs)
+        return "the vendor's own (--opaque): answers and buffers are compared, outputs judged (--judge-outputs)";
+    return o->manner.opaque ? "the vendor's own (--opaque): answers and buffers are compared"
+                            : "in the lent store: answers, buffers and every byte of the store are compared";
+}
+
 static void put_facts(FILE *to, const struct result *r)
 {
     const struct order *o = r->order;
@@ -183,9 +192,7 @@ static void put_facts(FILE *to, const struct result *r)
     put_fact(to, "Vendor's library", text);
     put_code(to, "SHA-256", r->sha256);
     put_fact(to, "Measured against", "Adderknot " ADK_VERSION);
-    put_fact(to, "State",
-             o->manner.opaque ? "the vendor's own (--opaque): answers and buffers are compared"
-                              : "in the lent store: answers, buffers and every byte of the store are compared");
+    put_fact(to, "State", way_of(o));
     put_store(to, o->manner, &r->figures->cover);
     snprintf(text, sizeof text, "0x%" PRIX64 "%s", o->seed, o->manner.only_nops ? ", buffers of NOPs only" : "");
     put_code(to, "Seed", text);
@@ -478,10 +485,10 @@ void page_score(FILE *to, const struct result *r)
     put_elements(to, v);
     put_buffers(to, v);
     put_handed(to, v);
-    if (r->order->manner.opaque) {
+    if (r->order->judge_outputs)
         put_outputs(to, &r->figures->outputs);
+    if (r->order->manner.opaque)
         put_touched(to, &r->figures->touched);
-    }
     put_answers(to, v, r->order->manner);
     put_told(to, r->figures);
     fputs("<div class=\"sign\"><div>Inspector</div><div>Date</div><div>Signature</div></div>\n</body></html>\n", to);

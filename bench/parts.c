@@ -103,7 +103,7 @@ static void make_part(struct job *j, uint64_t part)
     seed_part(j->order->seed, part);
     fill_memory();
     begin_night(j->order->manner);
-    begin_tally();
+    begin_tally(j->order->manner.opaque);
     for (m.number = first; m.number <= last && !*j->stop; m.number++) {
         m.call = next_call(m.number - first + 1);
         if (make_one(j, &m, &ends))
@@ -144,7 +144,8 @@ static _Noreturn void be_job(const struct order *o, struct recording *r, struct 
 {
     static const int not_heeded[] = { SIGINT, SIGTERM, SIGHUP };
     struct job j = { .order = o, .figures = &shared->jobs[number], .stop = &shared->stop, .recording = r };
-    j.vendor = (struct vendor){ .path = o->vendor, .keeps_store = o->manner.opaque, .stop = &shared->stop,
+    j.vendor = (struct vendor){ .path = o->vendor, .keeps_store = o->manner.opaque,
+                                .orders_outputs = o->judge_outputs, .stop = &shared->stop,
                                 .seconds = (unsigned)o->seconds };
     prctl(PR_SET_PDEATHSIG, SIGKILL);
     if (getppid() != score)

@@ -3,21 +3,20 @@
  *
  *     make score VENDOR=./vendor.so
  *     score [--vendor FILE] [--opaque] [--large] [--report FILE] [--calls N] [--seed S] [--jobs N] [--only N] [--csv]
- *           [--nops] [--record FILE] [--answers FILE]
+ *           [--nops] [--record FILE] [--answers FILE] [--judge-outputs]
  *
  * The vendor's library is a shared object that exports the functions of adderknot.h. It runs in a process of its own.
  * Each call is made on both sides with the same numbers and bytes; the answer, each lent byte and the bytes beside them
  * are compared. The library is the measure. After a disagreement its memory is copied to the vendor's side, so that one
  * mistake does not drown the rest. With --opaque the vendor keeps its own state instead: it changes by calls only, and
- * after a disagreement in what is kept the next episode begins; the output of a run is judged (judge.h). With --large
- * the store is the large one, and small ones are converted; a vendor that does not export adk_convert is scored without
- * that.
+ * after a disagreement in what is kept the next episode begins; with --judge-outputs the output of a run is judged
+ * (judge.h). With --large the store is the large one, and small ones are converted; a vendor that does not export
+ * adk_convert is scored without that.
  *
  * The first disagreement of each kind is told in full. Then follow how often each call gave each answer, which elements
  * the night covered, by guests with the whole list and by POWER9 guests, how often the latter were refused what they
  * lack, how many accepted buffers held nothing but NOPs, how many vCPUs were handed over, how full the store was, in a
- * night by calls the tally of each vCPU that is there at its end and how many outputs are not the library's byte for
- * byte, and the lines that sum it up.
+ * night by calls the tally of each vCPU that is there at its end, and the lines that sum it up.
  */
 #define _GNU_SOURCE
 
@@ -100,8 +99,9 @@ static void announce(const struct order *o)
         printf("score: no vendor is named, so the model stands for one\n");
     if (o->manner.large && o->manner.no_conversion)
         printf("score: the vendor does not export adk_convert, so conversion is not scored\n");
-    printf("score: vendor %s, %" PRIu64 " calls, seed 0x%" PRIX64 "%s%s\n\n", o->vendor, o->calls, o->seed,
-           o->manner.opaque ? ", opaque" : "", o->manner.large ? ", large store" : "");
+    printf("score: vendor %s, %" PRIu64 " calls, seed 0x%" PRIX64 "%s%s%s\n\n", o->vendor, o->calls, o->seed,
+           o->manner.opaque ? ", opaque" : "", o->manner.large ? ", large store" : "",
+           o->judge_outputs ? ", outputs judged" : "");
 }
 
 static double seconds_since(const struct timespec *begun)

@@ -251,12 +251,18 @@ static void print_our_value(FILE *to, const struct call *c, unsigned id)
         fprintf(to, "%02X", memory[LIBRARY][OUTPUT][f.at + i]);
 }
 
+/* 20 is no answer of a call, so adk_answer_name has no name for it. */
+static const char *judged_name(uint64_t r3)
+{
+    return r3 == ADK_MISSING_ELEMENT ? "missing element" : adk_answer_name(r3);
+}
+
 void print_judged(FILE *to, const struct call *c, const adk_answer *output)
 {
     char name[ADK_NAME_SIZE];
     const uint8_t *bytes = memory[OTHER][OUTPUT];
     bool placed = tells_element(output), missing = output->r3 == ADK_MISSING_ELEMENT;
-    fprintf(to, "  output: r3 %" PRIu64 " (%s)", output->r3, adk_answer_name(output->r3));
+    fprintf(to, "  output: r3 %" PRIu64 " (%s)", output->r3, judged_name(output->r3));
     if (placed)
         fprintf(to, ": index %" PRIu64 ", byte %" PRIu64, output->r4, output->r5);
     if (missing || (placed && output->r5 + 2 <= c->len[OUTPUT])) {

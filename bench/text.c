@@ -125,19 +125,21 @@ static void print_touched(FILE *to, const struct touched *t)
 
 static void print_agreed(FILE *to, const struct figures *f, bool large)
 {
-    fprintf(to, "\nagreed: %" PRIu64 " of %" PRIu64 " calls%s", f->agreed, f->made, large ? " of the large store" : "");
+    fprintf(to, "agreed: %" PRIu64 " of %" PRIu64 " calls%s", f->agreed, f->made, large ? " of the large store" : "");
     if (f->skipped != 0)
         fprintf(to, "; %" PRIu64 " more were not made, since their part was left before", f->skipped);
     fprintf(to, "\n");
 }
 
-/* What only a night by calls tells. */
-static void print_by_calls(FILE *to, const struct figures *f)
+/* What only a night by calls tells; of outputs, only one that judges them. */
+static void print_by_calls(FILE *to, const struct figures *f, const struct order *o)
 {
-    fprintf(to, "outputs: %" PRIu64 " of %" PRIu64 " accepted runs gave other bytes than ours; %" PRIu64
-            " of these were refused\n", f->outputs.other, f->outputs.all, f->outputs.refused);
-    fprintf(to, "touched: %" PRIu64 " of %" PRIu64 " vCPUs ran, were set or were refused an element\n",
-            f->touched.touched, f->touched.created);
+    if (o->judge_outputs)
+        fprintf(to, "outputs: %" PRIu64 " of %" PRIu64 " accepted runs gave other bytes than ours; %" PRIu64
+                " of these were refused\n", f->outputs.other, f->outputs.all, f->outputs.refused);
+    if (o->manner.opaque)
+        fprintf(to, "touched: %" PRIu64 " of %" PRIu64 " vCPUs ran, were set or were refused an element\n",
+                f->touched.touched, f->touched.created);
 }
 
 static void print_ways(FILE *to, const struct cover *v, enum list list)
@@ -186,9 +188,9 @@ void print_score(FILE *to, const struct result *r)
     print_fullest(to, &f->cover, layout_of_night(r->order->manner));
     if (r->order->manner.opaque)
         print_touched(to, &f->touched);
+    fputc('\n', to);
+    print_by_calls(to, f, r->order);
     print_agreed(to, f, r->order->manner.large);
-    if (r->order->manner.opaque)
-        print_by_calls(to, f);
     print_worth(to, &f->cover);
     fprintf(to, "verdict: %s, vendor %s\n", verdict_name(r->verdict), r->order->vendor);
 }

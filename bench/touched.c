@@ -11,8 +11,9 @@ static const struct l0 library = L0_LIBRARY;
 /* A small store goes by the first of them. A conversion leaves each vCPU in its slot. */
 static adk_summary records[SLOTS_MOST];
 static bool counted[SLOTS_MOST]; /* whether the vCPU of the slot was counted as touched */
+static bool tallies;             /* whether calls go through the tally */
 
-void begin_tally(void)
+static void renew_records(void)
 {
     static const adk_summary new = ADK_NEW_SUMMARY;
     for (unsigned slot = 0; slot < SLOTS_MOST; slot++) {
@@ -21,15 +22,21 @@ void begin_tally(void)
     }
 }
 
+void begin_tally(bool by_calls)
+{
+    tallies = by_calls;
+    renew_records();
+}
+
 adk_found make_on_library(const struct call *c, uint8_t *const *m)
 {
-    if (record_kind(c->kind) != 0) {
+    if (tallies && record_kind(c->kind) != 0) {
         struct numbered n = by_number(c, 0);
         return make_tallied(adk_tally, &n, records, records_asked(&n), m);
     }
     adk_found f = c->kind->make(&library, c, m);
     if (makes_fresh(c->kind) && f.r3 == ADK_OK)
-        begin_tally();
+        renew_records();
     return f;
 }
 

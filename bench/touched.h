@@ -1,9 +1,9 @@
 /*
- * touched.h: which vCPUs a night touched (02, L5). The library's calls go through its tally, with summary records beside
- * its store; a vCPU is touched once its record counts something.
+ * touched.h: which vCPUs a night by calls touched (02, L5). The library's calls go through its tally, with summary
+ * records beside its store; a vCPU is touched once its record counts something.
  *
- * It is told of nights by calls. In others the score itself writes the store between calls, and what the records hold
- * is then not what a history of calls gives.
+ * In other nights the score itself writes the store between calls, and what the records hold would not be what a
+ * history of calls gives: there the library's calls are made by their own entries.
  */
 #ifndef TOUCHED_H
 #define TOUCHED_H
@@ -20,10 +20,10 @@ struct touched {
     } vcpu[SLOTS_MOST];
 };
 
-/* Begins with records of new vCPUs. */
-void begin_tally(void);
+/* Begins with records of new vCPUs, in a night by calls or another. */
+void begin_tally(bool by_calls);
 
-/* Makes a call of a night on the library, through its tally if it is one of the eight. */
+/* Makes a call of a night on the library; one of the eight, in a night by calls, through the tally. */
 adk_found make_on_library(const struct call *c, uint8_t *const *m);
 
 /* Counts after a call that was answered so; and tells the vCPUs that a part left. */

@@ -40,6 +40,7 @@ enum { PATIENCE = 3, IMPATIENCE = 10, NOTE_SIZE = 160 };
 struct vendor {
     const char *path;
     bool keeps_store;         /* what it knows is its own, and not in the lent store */
+    bool orders_outputs;      /* its outputs may have an order of their own, so they are judged */
     unsigned seconds;         /* how long a call may take */
     const volatile int *stop; /* nonzero: the score is to stop, and waits no longer */
     struct window window;

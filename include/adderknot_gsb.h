@@ -271,10 +271,10 @@ static inline const char *adk_answer_name(uint64_t r3)
         "success", "store not well formed", "unsupported flag", "bad parameter", "bad vCPU", "bad length",
         "invalid element ID", "invalid element size", "invalid element value", "not enough resources", "vCPU exists",
         "run buffer not registered", "lent too short", "unknown exit", "bad effect", "cache not well formed",
-        "wrong owner of the state", "bad form", "wrong number of summary records", "bad record",
-        "missing element", "capabilities in use"
+        "wrong owner of the state", "bad form", "wrong number of summary records", "bad record", NULL,
+        "capabilities in use"
     };
-    return r3 < sizeof names / sizeof names[0] ? names[r3] : "no answer of a call";
+    return r3 < sizeof names / sizeof names[0] && names[r3] != NULL ? names[r3] : "no answer of a call";
 }
 
 static inline const char *adk_exit_name(uint64_t exit_reason)

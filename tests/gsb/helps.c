@@ -122,7 +122,7 @@ static void names(void)
                                             strcmp(adk_answer_name(17), "bad form") == 0 &&
                                             strcmp(adk_answer_name(18), "wrong number of summary records") == 0 &&
                                             strcmp(adk_answer_name(19), "bad record") == 0 &&
-                                            strcmp(adk_answer_name(20), "missing element") == 0 &&
+                                            strcmp(adk_answer_name(20), "no answer of a call") == 0 &&
                                             strcmp(adk_answer_name(21), "capabilities in use") == 0 &&
                                             strcmp(adk_answer_name(22), "no answer of a call") == 0 &&
                                             strcmp(adk_answer_name(UINT64_MAX), "no answer of a call") == 0 &&
