@@ -62,6 +62,6 @@ Of one call, from its entry to its return, counted by valgrind's callgrind on th
 $(block "make -s counts")
 
 ## Stack
-The deepest chain of calls from each exported function, return addresses included, from its machine code; the limit is 512 bytes.
+The deepest chain of calls from each exported function, return addresses included, from its machine code; the limit is 512 bytes, and that of adk_tally 640.
 $(block 'bench/stack.sh target/staticlib/libadderknot.a 512 memset=$(target/bench/shallow --memset) "adk_tally<=640"')
 END
