@@ -1,5 +1,5 @@
 -- Each return is a line of `compared`: the laws `at-..` of Steps. The last ones are written out, since a search would take too long.
-use Rattle.judging.proofs.Steps.{at_header, at_nop_cut, at_nop, at_not_new, place_small, mark_small, cell_inside, value_inside, at_size, at_end, at_value, at_good}
+use Rattle.judging.proofs.Steps.{at_header, at_nop_cut, at_nop, at_not_new, place_small, mark_small, cell_inside, at_size, at_end, at_value, at_good}
 use native.Mathlib.Omega.{arith}
 use borrow.Author.Rules.{rules}
 use mathlib.Core.Bool.{not}
@@ -28,7 +28,7 @@ pub overflow_add-base : goal.overflow_add-base
 overflow_add-base c = omega (arith, cell_inside c.args.base c.args.store.now _ _ _ _ _ c.requires.good_row c.requires.reached _ _ c.if-b-at-lt4.false c.get16-id.ensures c.get16-size.ensures c.if-id-eq0.false _ c.standing_of.ensures _ c.in-New.is _ c.cell_of-cell.ensures c.requires.slot_bytes_in_bounds)
 
 pub same_value-requires : goal.same_value-requires
-same_value-requires c = (search rules, search (rules, value_inside))
+same_value-requires c = (search rules, omega (arith, cell_inside c.args.base c.args.store.now _ _ _ _ _ c.requires.good_row c.requires.reached _ _ c.if-b-at-lt4.false c.get16-id.ensures c.get16-size.ensures c.if-id-eq0.false _ c.standing_of.ensures _ c.in-New.is _ c.cell_of-cell.ensures c.requires.slot_bytes_in_bounds))
 
 pub returns-then-not-same_value : goal.returns-then-not-same_value
 returns-then-not-same_value c = search (rules, at_value)
