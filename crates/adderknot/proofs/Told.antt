@@ -4,16 +4,14 @@ use mathlib.Core.List.{List, []}
 use Prim.Native.Nat.{ℕ}
 use Rattle.answer.specs.declared.Answer.{Answer}
 use Rattle.answer.specs.declared.Call.{Call}
-use Rattle.answer.specs.declared.Call.TheVariants.{Lookup, Join, WriteRecord, JudgeOutput}
+use Rattle.answer.specs.declared.Call.TheVariants.{Join, WriteRecord, JudgeOutput}
 use Rattle.answer.specs.declared.Registers.{Registers}
 use Rattle.answer.specs.Answer.{told}
 use Rattle.admission.specs.Refusals.{Outcome}
-use Rattle.gsb.specs.declared.lookups.Found.{Found as Looked}
 use Rattle.gsb.specs.Join.{Joining}
 use Rattle.l0.specs.Numbered.{Called, kind_name}
 use Rattle.records.specs.Write.{Written}
-use Rattle.adderknot.specs.declared.Found.{Found}
-use Rattle.adderknot.specs.Entries.{Left, tells, leaves, Filled, fills, Made, makes, found_at, Wrote, writes, writes_record}
+use Rattle.adderknot.specs.Entries.{Left, tells, leaves, Filled, fills, Made, makes, Wrote, writes, writes_record}
 
 module _ (c : Call) (r : Registers) (a : Answer) (s : List ℕ) (o : Outcome) (e : ◌≡◌ {A = Outcome} (record { answer = a; store = s; buffer = [] }) o) (h : r ≡ told c a.fault a.value) where
   pub told_numbers : r ≡ tells c o
@@ -31,10 +29,6 @@ pub told_made : (kind : ℕ) (c : Call) (r : Registers) (a : Answer) (s d u : Li
     → ◌≡◌ {A = Made} (record { registers = r; store = s; «data» = d; output = u }) (makes kind o)
 told_made kind c r a s d u o n e h =
     ap (λ (x : Registers). record { registers = x; store = s; «data» = d; output = u }) (h ∙ ap (λ (x : Call). told x a.fault a.value) n) ∙ ap (makes kind) e
-
-pub told_found : (t : Registers) (f x : Looked) → f ≡ x → t ≡ told Lookup f.answer.fault f.answer.value
-    → ◌≡◌ {A = Found} (record { r3 = t.r3; r4 = t.r4; r5 = t.r5; at = f.at; len = f.len }) (found_at x)
-told_found t f x e h = ap (λ (y : Registers). record { r3 = y.r3; r4 = y.r4; r5 = y.r5; at = f.at; len = f.len }) h ∙ ap found_at e
 
 pub told_written : (t : Registers) (a : Answer) (r : List ℕ) (j : Joining) → ◌≡◌ {A = Joining} (record { answer = a; result = r }) j → t ≡ told Join a.fault a.value
     → ◌≡◌ {A = Wrote} (record { registers = t; result = r }) (writes j)

@@ -1,7 +1,9 @@
 -- 01, "Answers": what a C caller sees of a call: R3, R4 and R5, and the lent memory that it may write.
-use Rattle.std.specs.Prelude.{ℕ, List}
+use Rattle.std.specs.Prelude.{ℕ, List, Result, Ok, Err}
 use Rattle.answer.specs.declared.Call.{Call}
 use Rattle.answer.specs.declared.Call.TheVariants.{Lookup, Join, WriteRecord}
+use Rattle.answer.specs.declared.Fault.{Fault}
+use Rattle.answer.specs.declared.Fault.TheVariants.{None}
 use Rattle.answer.specs.declared.Registers.{Registers}
 use Rattle.answer.specs.Answer.{told}
 use Rattle.gsb.specs.declared.lookups.Found.{Found as Looked}
@@ -46,14 +48,21 @@ makes kind c = record {
   output = c.output;
 }
 
--- a lookup's answer and where the part lies
-abbrev pub found_at : Looked → Found
-found_at f = record {
-  r3 = (told Lookup f.answer.fault f.answer.value).r3;
-  r4 = (told Lookup f.answer.fault f.answer.value).r4;
-  r5 = (told Lookup f.answer.fault f.answer.value).r5;
-  at = f.at;
-  len = f.len;
+-- a lookup's answer and where the part lies. 01, "The guest state buffer": "A refusal gives back an empty part."
+abbrev pub found_at : Result Looked Fault → Found
+found_at (Ok part) = record {
+  r3 = (told Lookup None 0).r3;
+  r4 = (told Lookup None 0).r4;
+  r5 = (told Lookup None 0).r5;
+  at = part.at;
+  len = part.len;
+}
+found_at (Err fault) = record {
+  r3 = (told Lookup fault 0).r3;
+  r4 = (told Lookup fault 0).r4;
+  r5 = (told Lookup fault 0).r5;
+  at = 0;
+  len = 0;
 }
 
 -- of a join and of a record's writing, which are lent no store: the result

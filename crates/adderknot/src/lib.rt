@@ -19,7 +19,9 @@ ghost use Rattle.judging.specs.Judging.{judge_told};
 ghost use Rattle.tally.specs.Tally.{Noted, notes, tallied};
 ghost use Rattle.adderknot.specs.Entries.{Left, leaves, Filled, fills, tells, Made, makes, found_at, Wrote, writes, writes_record};
 
-use answer::{Call, Fault, Registers, refusal, registers_of};
+use admission::BIT_1;
+use answer::{Answer, Call, Fault, Registers, refusal, registers_of};
+use l0::Kind;
 use tally::Summary;
 
 #[unsafe(no_mangle)]
@@ -64,7 +66,7 @@ pub extern "C" fn adk_create_vcpu(store: &mut [u8], flags: u64, guest: u64, vcpu
 }
 
 // The flag of get and set state by which a vCPU is handed over.
-const HAND_OVER: u64 = 0x4000_0000_0000_0000;
+const HAND_OVER: u64 = BIT_1;
 
 // Get and set state in four functions that an entry and `adk_call` call: one with a single caller would be compiled into it,
 // and the elements would take the stack of a hand-over too.
@@ -186,24 +188,24 @@ pub extern "C" fn adk_call(
 ) -> Registers
     ensures { ◌≡◌ {A = Made} (record { registers = result; store = store.new; «data» = «data».new; output = output.new }) (makes kind (called (layout_of store.old) store.old (record { kind = kind; flags = flags; guest = guest; number = number; exit = exit_reason; «data» = «data».old; effect = effect.now }) output.old)) }
 {
-    match kind {
-        1 => adk_get_capabilities(store, flags),
-        2 => adk_set_capabilities(store, flags, number),
-        3 => adk_create_guest(store, flags, number),
-        4 => adk_create_vcpu(store, flags, guest, number),
-        5 => {
+    match Kind::from_number(kind) {
+        Some(Kind::GetCapabilities) => adk_get_capabilities(store, flags),
+        Some(Kind::SetCapabilities) => adk_set_capabilities(store, flags, number),
+        Some(Kind::CreateGuest) => adk_create_guest(store, flags, number),
+        Some(Kind::CreateVcpu) => adk_create_vcpu(store, flags, guest, number),
+        Some(Kind::GetState) => {
             if flags == HAND_OVER {
                 return take_vcpu(store, guest, number, data);
             }
             get_elements(store, flags, guest, number, data)
         }
-        6 => {
+        Some(Kind::SetState) => {
             if flags == HAND_OVER {
                 return give_vcpu(store, guest, number, data);
             }
             set_elements(store, flags, guest, number, data)
         }
-        7 => adk_run_vcpu(
+        Some(Kind::RunVcpu) => adk_run_vcpu(
             store,
             flags,
             guest,
@@ -213,8 +215,8 @@ pub extern "C" fn adk_call(
             effect,
             exit_reason,
         ),
-        8 => adk_delete_guest(store, flags, guest),
-        _ => registers_of(Call::FreshStore, refusal(Fault::Record(0))),
+        Some(Kind::DeleteGuest) => adk_delete_guest(store, flags, guest),
+        None => registers_of(Call::FreshStore, refusal(Fault::Record(0))),
     }
 }
 
@@ -269,9 +271,9 @@ pub extern "C" fn adk_convert(small: &[u8], large: &mut [u8]) -> Registers
 pub extern "C" fn adk_lookup(buffer: &[u8], id: u16) -> Found
     ensures { result ≡ found_at (looked_up buffer.now id) }
 {
-    let found = gsb::lookup(buffer, id);
-    let answer = found.answer;
-    let told = registers_of(Call::Lookup, answer);
+    let looked = gsb::lookup(buffer, id);
+    let told = registers_of(Call::Lookup, Answer::from(looked.map(|_| 0)));
+    let found = looked.unwrap_or(gsb::Found { at: 0, len: 0 });
     Found {
         r3: told.r3,
         r4: told.r4,

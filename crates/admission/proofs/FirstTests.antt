@@ -2,10 +2,10 @@
 use mathlib.Core.Path.{◌≡◌, refl, sym, ap, ◌∙◌}
 use mathlib.Core.Bool.{Bool, true, false, not, cond}
 use mathlib.Core.List.{List}
-use Prim.Native.Nat.{ℕ, ◌<◌, ◌≤◌, ◌^◌}
-use native.Mathlib.Omega.{arith}
-use lib.Count.{count_leading_zeros, leading_le}
+use Prim.Native.Nat.{ℕ, ◌≤◌}
+use lib.Count.{count_leading_zeros}
 use lib.Dec.{eqb}
+use Rattle.std.specs.Prelude.{Ok, Err}
 use lib.ListN.{length}
 use borrow.Author.Tests.{eq-eqb, ne_eqb, not-false}
 use Rattle.answer.specs.declared.Fault.{Fault}
@@ -15,13 +15,11 @@ use Rattle.store.specs.Header.{header, outside, live}
 use Rattle.store.specs.Store.{well_formed}
 use Rattle.store.proofs.Frame.{formed}
 use Rattle.store.proofs.Tests.{live_parts}
-use Rattle.admission.specs.declared.Admission.{Admission}
-use Rattle.admission.specs.declared.Admission.TheVariants.{Admitted, Refused}
-use Rattle.admission.specs.Refusals.{admission}
+use Rattle.admission.specs.Refusals.{Admission, admission}
 
 module _ (l : Layout) (s : List ℕ) (supported flags : ℕ) where
   -- ---- the answers of `admit`
-  pub admit_store : (t : Bool) → t ≡ well_formed l s → not t ≡ true → Refused Store ≡ admission l s supported flags
+  pub admit_store : (t : Bool) → t ≡ well_formed l s → not t ≡ true → Err Store ≡ admission l s supported flags
   unfolding admission
   admit_store t e h = let n : not (well_formed l s) ≡ true = ap not (sym e) ∙ h in sym (simp n)
 
@@ -29,13 +27,13 @@ module _ (l : Layout) (s : List ℕ) (supported flags : ℕ) where
     passed : not (well_formed l s) ≡ false
     passed = ap not (sym e) ∙ h
 
-    pub admit_flag : (x ≡ 0 → ⊥) → Refused (Flag (count_leading_zeros 64 x)) ≡ admission l s supported flags
+    pub admit_flag : (x ≡ 0 → ⊥) → Err (Flag (count_leading_zeros 64 x)) ≡ admission l s supported flags
     unfolding admission
     admit_flag n =
         let m : outside supported flags ≡ 0 → ⊥ = λ z. n (q ∙ z) in
-        sym (simp (passed, ne_eqb _ _ m) (ap (λ (y : ℕ). Refused (Flag (count_leading_zeros 64 y))) (sym q)))
+        sym (simp (passed, ne_eqb _ _ m) (ap (λ (y : ℕ). Err (Flag (count_leading_zeros 64 y))) (sym q)))
 
-    pub admit_all : x ≡ 0 → Admitted ≡ admission l s supported flags
+    pub admit_all : x ≡ 0 → ◌≡◌ {A = Admission} (Ok tt) (admission l s supported flags)
     unfolding admission
     admit_all z =
         let m : outside supported flags ≡ 0 = sym q ∙ z in
@@ -45,51 +43,36 @@ module _ (l : Layout) (s : List ℕ) (supported flags : ℕ) where
   abbrev tests : {A : Type 0} → (Fault → A) → A → A
   tests refuse rest = cond (not (well_formed l s)) (refuse Store) (cond (not (eqb (outside supported flags) 0)) (refuse (Flag (count_leading_zeros 64 (outside supported flags)))) rest)
 
-  no_refusal : {f : Fault} → Admitted ≡ Refused f → ⊥
-  no_refusal e = let z : ◌≡◌ {A = ℕ} 0 1 = cc in omega arith
-
-  pub refused : {A : Type 0} (refuse : Fault → A) (rest : A) (a : Admission) (f : Fault) → a ≡ admission l s supported flags → a ≡ Refused f → tests refuse rest ≡ refuse f
+  pub refused : {A : Type 0} (refuse : Fault → A) (rest : A) (a : Admission) (f : Fault) → a ≡ admission l s supported flags → a ≡ Err f → tests refuse rest ≡ refuse f
   unfolding admission
   refused {A} refuse rest a f e h = go (not (well_formed l s)) (not (eqb (outside supported flags) 0)) (sym e ∙ h)
     where
-      go : (p q : Bool) → cond p (Refused Store) (cond q (Refused (Flag (count_leading_zeros 64 (outside supported flags)))) Admitted) ≡ Refused f
+      go : (p q : Bool) → ◌≡◌ {A = Admission} (cond p (Err Store) (cond q (Err (Flag (count_leading_zeros 64 (outside supported flags)))) (Ok tt))) (Err f)
           → cond p (refuse Store) (cond q (refuse (Flag (count_leading_zeros 64 (outside supported flags)))) rest) ≡ refuse f
-      go true q k = ap refuse (same k)
-        where
-          same : {x y : Fault} → Refused x ≡ Refused y → x ≡ y
-          same k = cc
-      go false true k = ap refuse (same k)
-        where
-          same : {x y : Fault} → Refused x ≡ Refused y → x ≡ y
-          same k = cc
-      go false false k = absurd (no_refusal k)
+      go true q k = ap refuse cc
+      go false true k = ap refuse cc
+      go false false k = cc
 
   pub record Past : Type 0 where
     pub good : well_formed l s ≡ true
     pub flags_good : eqb (outside supported flags) 0 ≡ true
 
-  no_admission : {f : Fault} → Refused f ≡ Admitted → ⊥
-  no_admission e = let z : ◌≡◌ {A = ℕ} 0 1 = cc in omega arith
-
-  pub past : (a : Admission) → a ≡ admission l s supported flags → a ≡ Admitted → Past
+  pub past : (a : Admission) → a ≡ admission l s supported flags → a ≡ Ok tt → Past
   unfolding admission
   past a e h = go (well_formed l s) (eqb (outside supported flags) 0) refl refl (sym e ∙ h)
     where
       go : (p q : Bool) → well_formed l s ≡ p → eqb (outside supported flags) 0 ≡ q
-          → cond (not p) (Refused Store) (cond (not q) (Refused (Flag (count_leading_zeros 64 (outside supported flags)))) Admitted) ≡ Admitted → Past
+          → ◌≡◌ {A = Admission} (cond (not p) (Err Store) (cond (not q) (Err (Flag (count_leading_zeros 64 (outside supported flags)))) (Ok tt))) (Ok tt) → Past
       go true true i j k = record { good = i; flags_good = j }
-      go true false i j k = absurd (no_admission k)
-      go false q i j k = absurd (no_admission k)
+      go true false i j k = cc
+      go false q i j k = cc
 
   pub admitted : {A : Type 0} (refuse : Fault → A) (rest : A) → Past → tests refuse rest ≡ rest
   admitted refuse rest p = simp (p.good, p.flags_good)
 
-pub leading_fits : (x : ℕ) → count_leading_zeros 64 x < 2 ^ 64
-leading_fits x = omega (arith, leading_le 64 x)
-
 -- ---- what the store's functions require, past the first tests
 module _ (l : Layout) (s : List ℕ) where
-  pub past_long : (supported flags : ℕ) (a : Admission) → a ≡ admission l s supported flags → a ≡ Admitted → length s ≡ l.size
+  pub past_long : (supported flags : ℕ) (a : Admission) → a ≡ admission l s supported flags → a ≡ Ok tt → length s ≡ l.size
   past_long supported flags a e h = (formed l s (past l s supported flags a e h).good).long
 
   pub good_long : (t : Bool) → t ≡ well_formed l s → not t ≡ false → length s ≡ l.size

@@ -2,25 +2,22 @@
 use mathlib.Core.Path.{◌≡◌, refl, sym, ap, ◌∙◌}
 use mathlib.Core.Bool.{Bool, true, false, cond}
 use mathlib.Core.List.{List, [], ◌∷◌, ◌++◌}
-use Prim.Native.Nat.{ℕ}
-use native.Mathlib.Omega.{arith}
 use Rattle.answer.specs.declared.Fault.{Fault}
 use Rattle.answer.specs.Refusals.{first_of}
-use Rattle.admission.specs.declared.Admission.{Admission}
-use Rattle.admission.specs.declared.Admission.TheVariants.{Admitted, Refused}
-use Rattle.admission.specs.Refusals.{judgement, Passed}
+use Rattle.std.specs.Prelude.{Ok, Err}
+use Rattle.admission.specs.Refusals.{Admission, judgement, Passed}
 
 -- what a judgement makes of a call whose outcome is o
 abbrev pub settle : {A : Type 0} → (Fault → A) → A → Admission → A
-settle refuse o Admitted = o
-settle refuse o (Refused f) = refuse f
+settle refuse o (Ok u) = o
+settle refuse o (Err f) = refuse f
 
 module _ {A : Type 0} (refuse : Fault → A) (o : A) where
   pub settle_all : (xs : List (Bool × Fault)) → first_of refuse xs o ≡ settle refuse o (judgement xs)
   settle_all [] = refl
   settle_all (x ∷ xs) = go x.0 (settle_all xs)
     where
-      go : (t : Bool) → first_of refuse xs o ≡ settle refuse o (judgement xs) → cond t (refuse x.1) (first_of refuse xs o) ≡ settle refuse o (cond t (Refused x.1) (judgement xs))
+      go : (t : Bool) → first_of refuse xs o ≡ settle refuse o (judgement xs) → cond t (refuse x.1) (first_of refuse xs o) ≡ settle refuse o (cond t (Err x.1) (judgement xs))
       go true ih = refl
       go false ih = ih
 
@@ -29,49 +26,46 @@ module _ {A : Type 0} (refuse : Fault → A) (o : A) where
   settle_append (x ∷ xs) ys = go x.0 (settle_append xs ys)
     where
       go : (t : Bool) → first_of refuse (xs ++ ys) o ≡ settle refuse (first_of refuse ys o) (judgement xs)
-          → cond t (refuse x.1) (first_of refuse (xs ++ ys) o) ≡ settle refuse (first_of refuse ys o) (cond t (Refused x.1) (judgement xs))
+          → cond t (refuse x.1) (first_of refuse (xs ++ ys) o) ≡ settle refuse (first_of refuse ys o) (cond t (Err x.1) (judgement xs))
       go true ih = refl
       go false ih = ih
 
   -- the whole, by what its beginning was found to be
-  pub begin_refused : (xs ys : List (Bool × Fault)) (f : Fault) → judgement xs ≡ Refused f → first_of refuse (xs ++ ys) o ≡ refuse f
+  pub begin_refused : (xs ys : List (Bool × Fault)) (f : Fault) → judgement xs ≡ Err f → first_of refuse (xs ++ ys) o ≡ refuse f
   begin_refused xs ys f e = settle_append xs ys ∙ ap (settle refuse (first_of refuse ys o)) e
 
-  pub begin_admitted : (xs ys : List (Bool × Fault)) → judgement xs ≡ Admitted → first_of refuse (xs ++ ys) o ≡ first_of refuse ys o
+  pub begin_admitted : (xs ys : List (Bool × Fault)) → judgement xs ≡ Ok tt → first_of refuse (xs ++ ys) o ≡ first_of refuse ys o
   begin_admitted xs ys e = settle_append xs ys ∙ ap (settle refuse (first_of refuse ys o)) e
 
-  pub all_refused : (xs : List (Bool × Fault)) (f : Fault) → judgement xs ≡ Refused f → first_of refuse xs o ≡ refuse f
+  pub all_refused : (xs : List (Bool × Fault)) (f : Fault) → judgement xs ≡ Err f → first_of refuse xs o ≡ refuse f
   all_refused xs f e = settle_all xs ∙ ap (settle refuse o) e
 
-  pub all_admitted : (xs : List (Bool × Fault)) → judgement xs ≡ Admitted → first_of refuse xs o ≡ o
+  pub all_admitted : (xs : List (Bool × Fault)) → judgement xs ≡ Ok tt → first_of refuse xs o ≡ o
   all_admitted xs e = settle_all xs ∙ ap (settle refuse o) e
 
 -- ---- back from an answer that holds the fault, or something found
 module _ {A : Type 0} (turn : Fault → A) (same : (f g : Fault) → turn f ≡ turn g → f ≡ g) (good : A) (other : (f : Fault) → good ≡ turn f → ⊥) (xs : List (Bool × Fault)) where
-  pub was_refused : (f : Fault) → first_of turn xs good ≡ turn f → judgement xs ≡ Refused f
+  pub was_refused : (f : Fault) → first_of turn xs good ≡ turn f → judgement xs ≡ Err f
   was_refused f e = go (judgement xs) (sym (settle_all turn good xs) ∙ e)
     where
-      go : (a : Admission) → settle turn good a ≡ turn f → a ≡ Refused f
-      go Admitted q = absurd (other f q)
-      go (Refused g) q = ap Refused (same g f q)
+      go : (a : Admission) → settle turn good a ≡ turn f → a ≡ Err f
+      go (Ok tt) q = absurd (other f q)
+      go (Err g) q = ap Err (same g f q)
 
-  pub was_admitted : (g : A) → ((f : Fault) → turn f ≡ g → ⊥) → first_of turn xs good ≡ g → (judgement xs ≡ Admitted) × (good ≡ g)
+  pub was_admitted : (g : A) → ((f : Fault) → turn f ≡ g → ⊥) → first_of turn xs good ≡ g → (judgement xs ≡ Ok tt) × (good ≡ g)
   was_admitted g n e = go (judgement xs) (sym (settle_all turn good xs) ∙ e)
     where
-      go : (a : Admission) → settle turn good a ≡ g → (a ≡ Admitted) × (good ≡ g)
-      go Admitted q = (refl, q)
-      go (Refused f) q = absurd (n f q)
+      go : (a : Admission) → settle turn good a ≡ g → (a ≡ Ok tt) × (good ≡ g)
+      go (Ok tt) q = (refl, q)
+      go (Err f) q = absurd (n f q)
 
 -- ---- no test holds
-no_refusal : {f : Fault} → Refused f ≡ Admitted → ⊥
-no_refusal e = let z : ◌≡◌ {A = ℕ} 0 1 = cc in omega arith
-
-pub judged_passed : (xs : List (Bool × Fault)) → judgement xs ≡ Admitted → Passed xs
+pub judged_passed : (xs : List (Bool × Fault)) → judgement xs ≡ Ok tt → Passed xs
 judged_passed [] e = tt
 judged_passed (x ∷ xs) e = go x.0 e (judged_passed xs)
   where
-    go : (t : Bool) → cond t (Refused x.1) (judgement xs) ≡ Admitted → (judgement xs ≡ Admitted → Passed xs) → (t ≡ false) × Passed xs
-    go true q ih = absurd (no_refusal q)
+    go : (t : Bool) → cond t (Err x.1) (judgement xs) ≡ Ok tt → (judgement xs ≡ Ok tt → Passed xs) → (t ≡ false) × Passed xs
+    go true q ih = cc
     go false q ih = (refl, ih q)
 
 -- tests behind others matter only where none of those holds

@@ -1,3 +1,4 @@
 pub mod FirstTests
 pub mod Judging
+pub mod Leaving
 pub mod Targets

@@ -13,33 +13,28 @@ use Rattle.store.specs.Layout.{Sound, guest_bytes, slot_bytes, guest_at, slot_at
 use Rattle.store.specs.Header.{header, live, word_of, slot_holding, slot_of, is_taken}
 use Rattle.store.specs.Store.{well_formed}
 use Rattle.store.proofs.Tests.{live_parts}
-use Rattle.admission.specs.declared.Admission.{Admission}
-use Rattle.admission.specs.declared.Admission.TheVariants.{Admitted, Refused}
-use Rattle.admission.specs.declared.Target.{Target}
-use Rattle.admission.specs.declared.Target.TheVariants.{Refused as TargetRefused, At}
-use Rattle.admission.specs.declared.Slot.{Slot}
-use Rattle.admission.specs.declared.Slot.TheVariants.{Refused as SlotRefused, At as SlotAt}
-use Rattle.admission.specs.Refusals.{admission, judgement}
+use Rattle.std.specs.Prelude.{Result, Ok, Err}
+use Rattle.admission.specs.Refusals.{Admission, admission, judgement}
 use Rattle.admission.specs.Target.{slot_named, is_absent, is_away, target_tests, base_of, target_of, Held, vcpu_tests, vcpu_slot, Within}
 use Rattle.admission.proofs.FirstTests.{refused, past, admitted}
 use Rattle.admission.proofs.Judging.{was_refused, was_admitted, judged_passed}
 
 -- ---- the answers of `target_of`
 module _ (l : Layout) (s : List ℕ) (supported flags : ℕ) (wide : Bool) (guest vcpu : ℕ) (a : Admission) (q : a ≡ admission l s supported flags) where
-  rest : Target
-  rest = cond (not (live l (header l s) guest)) (TargetRefused Guest) (cond (not wide && is_absent l s guest vcpu) (TargetRefused Vcpu)
-      (cond (not wide && is_away l s guest vcpu) (TargetRefused Taken) (At (base_of l s wide guest vcpu))))
+  rest : Result ℕ Fault
+  rest = cond (not (live l (header l s) guest)) (Err Guest) (cond (not wide && is_absent l s guest vcpu) (Err Vcpu)
+      (cond (not wide && is_away l s guest vcpu) (Err Taken) (Ok (base_of l s wide guest vcpu))))
 
-  pub target_refused : (f : Fault) → a ≡ Refused f → TargetRefused f ≡ target_of l s supported flags wide guest vcpu
+  pub target_refused : (f : Fault) → a ≡ Err f → Err f ≡ target_of l s supported flags wide guest vcpu
   unfolding target_of rest
-  target_refused f h = sym (refused l s supported flags TargetRefused rest a f q h)
+  target_refused f h = sym (refused l s supported flags Err rest a f q h)
 
-  module _ (h : a ≡ Admitted) (x : Bool) (o : x ≡ live l (header l s) guest) where
+  module _ (h : a ≡ Ok tt) (x : Bool) (o : x ≡ live l (header l s) guest) where
     target_past : target_of l s supported flags wide guest vcpu ≡ rest
     unfolding target_of rest
-    target_past = admitted l s supported flags TargetRefused rest (past l s supported flags a q h)
+    target_past = admitted l s supported flags Err rest (past l s supported flags a q h)
 
-    pub target_dead : not x ≡ true → TargetRefused Guest ≡ target_of l s supported flags wide guest vcpu
+    pub target_dead : not x ≡ true → Err Guest ≡ target_of l s supported flags wide guest vcpu
     unfolding rest
     target_dead n =
         let m : not (live l (header l s) guest) ≡ true = ap not (sym o) ∙ n in
@@ -49,12 +44,12 @@ module _ (l : Layout) (s : List ℕ) (supported flags : ℕ) (wide : Bool) (gues
       alive : not (live l (header l s) guest) ≡ false
       alive = ap not (sym o) ∙ n
 
-      pub target_wide : (p : ℕ) → wide ≡ true → p ≡ guest_at l guest → At p ≡ target_of l s supported flags wide guest vcpu
+      pub target_wide : (p : ℕ) → wide ≡ true → p ≡ guest_at l guest → Ok p ≡ target_of l s supported flags wide guest vcpu
       unfolding rest base_of
-      target_wide p w e = ap At e ∙ sym (target_past ∙ simp (alive, w))
+      target_wide p w e = ap Ok e ∙ sym (target_past ∙ simp (alive, w))
 
       module _ (w : wide ≡ false) (j : ℕ) (e : j ≡ slot_of l (header l s) guest vcpu) where
-        pub target_absent : l.slots ≤ j → TargetRefused Vcpu ≡ target_of l s supported flags wide guest vcpu
+        pub target_absent : l.slots ≤ j → Err Vcpu ≡ target_of l s supported flags wide guest vcpu
         unfolding rest
         target_absent k =
             let m : l.slots ≤ slot_of l (header l s) guest vcpu = omega arith in
@@ -67,111 +62,99 @@ module _ (l : Layout) (s : List ℕ) (supported flags : ℕ) (wide : Bool) (gues
           mark : is_taken l (header l s) (slot_of l (header l s) guest vcpu) ≡ y
           mark = sym (t ∙ ap (is_taken l (header l s)) e)
 
-          pub target_taken : y ≡ true → TargetRefused Taken ≡ target_of l s supported flags wide guest vcpu
+          pub target_taken : y ≡ true → Err Taken ≡ target_of l s supported flags wide guest vcpu
           unfolding rest
           target_taken h = let m = mark ∙ h in sym (target_past ∙ simp (alive, w, present, m))
 
-          pub target_slot : (p : ℕ) → y ≡ false → p ≡ slot_at l j → At p ≡ target_of l s supported flags wide guest vcpu
+          pub target_slot : (p : ℕ) → y ≡ false → p ≡ slot_at l j → Ok p ≡ target_of l s supported flags wide guest vcpu
           unfolding rest base_of
-          target_slot p h f = let m = mark ∙ h in ap At (f ∙ ap (slot_at l) e) ∙ sym (target_past ∙ simp (alive, w, present, m))
+          target_slot p h f = let m = mark ∙ h in ap Ok (f ∙ ap (slot_at l) e) ∙ sym (target_past ∙ simp (alive, w, present, m))
 
 -- that its values lie within the store
-pub held_wide : (l : Layout) (wide : Bool) (len base : ℕ) → len ≡ l.size → wide ≡ true → base + guest_bytes ≤ l.slots_at → Sound l → Held (At base) wide l len
+pub held_wide : (l : Layout) (wide : Bool) (len base : ℕ) → len ≡ l.size → wide ≡ true → base + guest_bytes ≤ l.slots_at → Sound l → Held (Ok base) wide l len
 held_wide l wide len base e w h so =
     let q : cond wide guest_bytes slot_bytes ≡ guest_bytes = ap (λ (t : Bool). cond t guest_bytes slot_bytes) w in
     (e, omega (arith, q, so.whole))
 
-pub held_slot : (l : Layout) (wide : Bool) (len base : ℕ) → len ≡ l.size → wide ≡ false → base + slot_bytes ≤ l.size → Held (At base) wide l len
+pub held_slot : (l : Layout) (wide : Bool) (len base : ℕ) → len ≡ l.size → wide ≡ false → base + slot_bytes ≤ l.size → Held (Ok base) wide l len
 held_slot l wide len base e w h =
     let q : cond wide guest_bytes slot_bytes ≡ slot_bytes = ap (λ (t : Bool). cond t guest_bytes slot_bytes) w in
     (e, omega (arith, q))
 
 -- ---- what callers learn
-refused_same : (f g : Fault) → TargetRefused f ≡ TargetRefused g → f ≡ g
+refused_same : (f g : Fault) → ◌≡◌ {A = Result ℕ Fault} (Err f) (Err g) → f ≡ g
 refused_same f g e = cc
 
-refused_not : {base : ℕ} (f : Fault) → At base ≡ TargetRefused f → ⊥
-refused_not f e = let z : ◌≡◌ {A = ℕ} 0 1 = cc in omega arith
+ok_same : {x y : ℕ} → ◌≡◌ {A = Result ℕ Fault} (Ok x) (Ok y) → x ≡ y
+ok_same e = cc
 
-found_not : {base : ℕ} (f : Fault) → TargetRefused f ≡ At base → ⊥
-found_not f e = let z : ◌≡◌ {A = ℕ} 0 1 = cc in omega arith
+refused_not : {base : ℕ} (f : Fault) → Ok base ≡ Err f → ⊥
+refused_not f e = cc
 
-module _ (l : Layout) (s : List ℕ) (supported flags : ℕ) (wide : Bool) (guest vcpu : ℕ) (a : Target) (q : a ≡ target_of l s supported flags wide guest vcpu) where
-  pub target_judged : (f : Fault) → a ≡ TargetRefused f → judgement (target_tests l s supported flags wide guest vcpu) ≡ Refused f
+found_not : {base : ℕ} (f : Fault) → Err f ≡ Ok base → ⊥
+found_not f e = cc
+
+module _ (l : Layout) (s : List ℕ) (supported flags : ℕ) (wide : Bool) (guest vcpu : ℕ) (a : Result ℕ Fault) (q : a ≡ target_of l s supported flags wide guest vcpu) where
+  pub target_judged : (f : Fault) → a ≡ Err f → judgement (target_tests l s supported flags wide guest vcpu) ≡ Err f
   unfolding target_of
-  target_judged f h = was_refused TargetRefused refused_same (At (base_of l s wide guest vcpu)) refused_not (target_tests l s supported flags wide guest vcpu) f (sym q ∙ h)
+  target_judged f h = was_refused Err refused_same (Ok (base_of l s wide guest vcpu)) refused_not (target_tests l s supported flags wide guest vcpu) f (sym q ∙ h)
 
-  pub target_found : (base : ℕ) → a ≡ At base → (judgement (target_tests l s supported flags wide guest vcpu) ≡ Admitted) × (base_of l s wide guest vcpu ≡ base)
+  pub target_found : (base : ℕ) → a ≡ Ok base → (judgement (target_tests l s supported flags wide guest vcpu) ≡ Ok tt) × (base_of l s wide guest vcpu ≡ base)
   unfolding target_of
   target_found base h =
-      let p = was_admitted TargetRefused refused_same (At (base_of l s wide guest vcpu)) refused_not (target_tests l s supported flags wide guest vcpu) (At base) found_not (sym q ∙ h) in
-      (p.0, at_same p.1)
-    where
-      at_same : {x y : ℕ} → At x ≡ At y → x ≡ y
-      at_same e = cc
+      let p = was_admitted Err refused_same (Ok (base_of l s wide guest vcpu)) refused_not (target_tests l s supported flags wide guest vcpu) (Ok base) found_not (sym q ∙ h) in
+      (p.0, ok_same p.1)
 
   -- the guest of a target that was found
-  found_lives : (base : ℕ) → a ≡ At base → live l (header l s) guest ≡ true
+  found_lives : (base : ℕ) → a ≡ Ok base → live l (header l s) guest ≡ true
   found_lives base h = not-false _ (judged_passed (target_tests l s supported flags wide guest vcpu) (target_found base h).0).1.1.0
 
-  pub found_low : (base : ℕ) → a ≡ At base → 1 ≤ guest
+  pub found_low : (base : ℕ) → a ≡ Ok base → 1 ≤ guest
   found_low base h = (live_parts l (header l s) guest (found_lives base h)).0
 
-  pub found_high : (base : ℕ) → a ≡ At base → guest ≤ l.guests
+  pub found_high : (base : ℕ) → a ≡ Ok base → guest ≤ l.guests
   found_high base h = (live_parts l (header l s) guest (found_lives base h)).1
 
-slot_refused_same : (f g : Fault) → SlotRefused f ≡ SlotRefused g → f ≡ g
-slot_refused_same f g e = cc
-
-slot_refused_not : {j : ℕ} (f : Fault) → SlotAt j ≡ SlotRefused f → ⊥
-slot_refused_not f e = let z : ◌≡◌ {A = ℕ} 0 1 = cc in omega arith
-
-slot_found_not : {j : ℕ} (f : Fault) → SlotRefused f ≡ SlotAt j → ⊥
-slot_found_not f e = let z : ◌≡◌ {A = ℕ} 0 1 = cc in omega arith
-
-module _ (l : Layout) (s : List ℕ) (guest vcpu : ℕ) (a : Slot) (q : a ≡ vcpu_slot l s guest vcpu) where
-  pub slot_judged : (f : Fault) → a ≡ SlotRefused f → judgement (vcpu_tests l s guest vcpu) ≡ Refused f
+module _ (l : Layout) (s : List ℕ) (guest vcpu : ℕ) (a : Result ℕ Fault) (q : a ≡ vcpu_slot l s guest vcpu) where
+  pub slot_judged : (f : Fault) → a ≡ Err f → judgement (vcpu_tests l s guest vcpu) ≡ Err f
   unfolding vcpu_slot
-  slot_judged f h = was_refused SlotRefused slot_refused_same (SlotAt (slot_named l s guest vcpu)) slot_refused_not (vcpu_tests l s guest vcpu) f (sym q ∙ h)
+  slot_judged f h = was_refused Err refused_same (Ok (slot_named l s guest vcpu)) refused_not (vcpu_tests l s guest vcpu) f (sym q ∙ h)
 
-  pub slot_named_lem : (j : ℕ) → a ≡ SlotAt j → (judgement (vcpu_tests l s guest vcpu) ≡ Admitted) × (slot_named l s guest vcpu ≡ j)
+  pub slot_named_lem : (j : ℕ) → a ≡ Ok j → (judgement (vcpu_tests l s guest vcpu) ≡ Ok tt) × (slot_named l s guest vcpu ≡ j)
   unfolding vcpu_slot
   slot_named_lem j h =
-      let p = was_admitted SlotRefused slot_refused_same (SlotAt (slot_named l s guest vcpu)) slot_refused_not (vcpu_tests l s guest vcpu) (SlotAt j) slot_found_not (sym q ∙ h) in
-      (p.0, at_same p.1)
-    where
-      at_same : {x y : ℕ} → SlotAt x ≡ SlotAt y → x ≡ y
-      at_same e = cc
+      let p = was_admitted Err refused_same (Ok (slot_named l s guest vcpu)) refused_not (vcpu_tests l s guest vcpu) (Ok j) found_not (sym q ∙ h) in
+      (p.0, ok_same p.1)
 
 -- what a slot that was found is
-pub within_size : (t : Slot) (l : Layout) (len vcpu j : ℕ) → Within t l len vcpu → t ≡ SlotAt j → len ≡ l.size
-within_size t l len vcpu j h e = (subst (λ (x : Slot). Within x l len vcpu) e h).0
+pub within_size : (t : Result ℕ Fault) (l : Layout) (len vcpu j : ℕ) → Within t l len vcpu → t ≡ Ok j → len ≡ l.size
+within_size t l len vcpu j h e = (subst (λ (x : Result ℕ Fault). Within x l len vcpu) e h).0
 
-pub within_slots : (t : Slot) (l : Layout) (len vcpu j : ℕ) → Within t l len vcpu → t ≡ SlotAt j → j < l.slots
-within_slots t l len vcpu j h e = (subst (λ (x : Slot). Within x l len vcpu) e h).1
+pub within_slots : (t : Result ℕ Fault) (l : Layout) (len vcpu j : ℕ) → Within t l len vcpu → t ≡ Ok j → j < l.slots
+within_slots t l len vcpu j h e = (subst (λ (x : Result ℕ Fault). Within x l len vcpu) e h).1
 
-pub within_id : (t : Slot) (l : Layout) (len vcpu j : ℕ) → Within t l len vcpu → t ≡ SlotAt j → vcpu < 2048
-within_id t l len vcpu j h e = (subst (λ (x : Slot). Within x l len vcpu) e h).2
+pub within_id : (t : Result ℕ Fault) (l : Layout) (len vcpu j : ℕ) → Within t l len vcpu → t ≡ Ok j → vcpu < 2048
+within_id t l len vcpu j h e = (subst (λ (x : Result ℕ Fault). Within x l len vcpu) e h).2
 
-pub held_size : (t : Target) (wide : Bool) (l : Layout) (len base : ℕ) → Held t wide l len → t ≡ At base → len ≡ l.size
-held_size t wide l len base h e = (subst (λ (x : Target). Held x wide l len) e h).0
+pub held_size : (t : Result ℕ Fault) (wide : Bool) (l : Layout) (len base : ℕ) → Held t wide l len → t ≡ Ok base → len ≡ l.size
+held_size t wide l len base h e = (subst (λ (x : Result ℕ Fault). Held x wide l len) e h).0
 
-pub held_room : (t : Target) (wide : Bool) (l : Layout) (len base : ℕ) → Held t wide l len → t ≡ At base → base + cond wide guest_bytes slot_bytes ≤ l.size
-held_room t wide l len base h e = (subst (λ (x : Target). Held x wide l len) e h).1
+pub held_room : (t : Result ℕ Fault) (wide : Bool) (l : Layout) (len base : ℕ) → Held t wide l len → t ≡ Ok base → base + cond wide guest_bytes slot_bytes ≤ l.size
+held_room t wide l len base h e = (subst (λ (x : Result ℕ Fault). Held x wide l len) e h).1
 
 -- of a vCPU
-pub held_vcpu : (t : Target) (l : Layout) (len base : ℕ) → Held t false l len → t ≡ At base → base + slot_bytes ≤ len
+pub held_vcpu : (t : Result ℕ Fault) (l : Layout) (len base : ℕ) → Held t false l len → t ≡ Ok base → base + slot_bytes ≤ len
 held_vcpu t l len base h e = omega (arith, held_size t false l len base h e, held_room t false l len base h e)
 
-pub held_fits : (t : Target) (l : Layout) (len base : ℕ) → Held t false l len → t ≡ At base → len < 2 ^ 64 → base + 8 < 2 ^ 64
+pub held_fits : (t : Result ℕ Fault) (l : Layout) (len base : ℕ) → Held t false l len → t ≡ Ok base → len < 2 ^ 64 → base + 8 < 2 ^ 64
 held_fits t l len base h e f = omega (arith, held_vcpu t l len base h e)
 
-pub held_inside : (t : Target) (l : Layout) (len base : ℕ) → Held t false l len → t ≡ At base → base + 8 + 8 ≤ len
+pub held_inside : (t : Result ℕ Fault) (l : Layout) (len base : ℕ) → Held t false l len → t ≡ Ok base → base + 8 + 8 ≤ len
 held_inside t l len base h e = omega (arith, held_vcpu t l len base h e)
 
 -- ---- the answers of `vcpu_slot`
 module _ (l : Layout) (s : List ℕ) (guest vcpu : ℕ) (g : Bool) (p : g ≡ well_formed l s) where
-  pub slot_malformed : not g ≡ true → SlotRefused Store ≡ vcpu_slot l s guest vcpu
+  pub slot_malformed : not g ≡ true → Err Store ≡ vcpu_slot l s guest vcpu
   unfolding vcpu_slot
   slot_malformed n = let m : not (well_formed l s) ≡ true = ap not (sym p) ∙ n in sym (simp m)
 
@@ -179,7 +162,7 @@ module _ (l : Layout) (s : List ℕ) (guest vcpu : ℕ) (g : Bool) (p : g ≡ we
     good : not (well_formed l s) ≡ false
     good = ap not (sym p) ∙ n
 
-    pub slot_dead : not x ≡ true → SlotRefused Guest ≡ vcpu_slot l s guest vcpu
+    pub slot_dead : not x ≡ true → Err Guest ≡ vcpu_slot l s guest vcpu
     unfolding vcpu_slot
     slot_dead d = let m : not (live l (header l s) guest) ≡ true = ap not (sym o) ∙ d in sym (simp (good, m))
 
@@ -187,17 +170,17 @@ module _ (l : Layout) (s : List ℕ) (guest vcpu : ℕ) (g : Bool) (p : g ≡ we
       lives : not (live l (header l s) guest) ≡ false
       lives = ap not (sym o) ∙ a
 
-      pub slot_absent : l.slots ≤ j → SlotRefused Vcpu ≡ vcpu_slot l s guest vcpu
+      pub slot_absent : l.slots ≤ j → Err Vcpu ≡ vcpu_slot l s guest vcpu
       unfolding vcpu_slot
       slot_absent k =
           let m : l.slots ≤ slot_of l (header l s) guest vcpu = omega arith in
           sym (simp (good, lives, le-leb _ _ m))
 
-      pub slot_found : j < l.slots → SlotAt j ≡ vcpu_slot l s guest vcpu
+      pub slot_found : j < l.slots → Ok j ≡ vcpu_slot l s guest vcpu
       unfolding vcpu_slot
       slot_found k =
           let m : slot_of l (header l s) guest vcpu < l.slots = omega arith in
-          ap SlotAt e ∙ sym (simp (good, lives, lt-leb _ _ m))
+          ap Ok e ∙ sym (simp (good, lives, lt-leb _ _ m))
 
 -- a slot names a vCPU id of 11 bits
 pub slot_within : (l : Layout) (h : List ℕ) (guest vcpu j : ℕ) → j ≡ slot_of l h guest vcpu → j < l.slots → vcpu < 2048
@@ -208,18 +191,3 @@ slot_within l h guest vcpu j e k = go (live l h guest) (ltb vcpu 2048) refl (sub
     go true true q i = ltb-true _ _ q
     go true false q i = absurd (omega arith)
     go false y q i = absurd (omega arith)
-
--- ---- in the layout that the store's length tells
-module _ (l m : Layout) (e : l ≡ m) where
-  pub target_sized : (s : List ℕ) (supported flags : ℕ) (wide : Bool) (guest vcpu : ℕ) (r : Target) → r ≡ target_of l s supported flags wide guest vcpu
-      → r ≡ target_of m s supported flags wide guest vcpu
-  target_sized s supported flags wide guest vcpu r q = q ∙ ap (λ (x : Layout). target_of x s supported flags wide guest vcpu) e
-
-  pub held_sized : (r : Target) (wide : Bool) (n : ℕ) → Held r wide l n → Held r wide m n
-  held_sized r wide n h = subst (λ (x : Layout). Held r wide x n) e h
-
-  pub slot_sized : (s : List ℕ) (guest vcpu : ℕ) (r : Slot) → r ≡ vcpu_slot l s guest vcpu → r ≡ vcpu_slot m s guest vcpu
-  slot_sized s guest vcpu r q = q ∙ ap (λ (x : Layout). vcpu_slot x s guest vcpu) e
-
-  pub within_sized : (r : Slot) (n vcpu : ℕ) → Within r l n vcpu → Within r m n vcpu
-  within_sized r n vcpu h = subst (λ (x : Layout). Within r x n vcpu) e h

@@ -1,5 +1,5 @@
 -- 01, "Answers": what a call leaves, and the tests that most calls begin with, each with its fault.
-use Rattle.std.specs.Prelude.{ℕ, ◌/◌, ◌^◌, ◌≡◌, Bool, false, not, List, [], ◌∷◌, eqb}
+use Rattle.std.specs.Prelude.{ℕ, ◌/◌, ◌^◌, ◌≡◌, Bool, false, not, List, [], ◌∷◌, eqb, Result, Ok, Err}
 use Rattle.std.specs.Int.Count.{count_leading_zeros}
 use Rattle.answer.specs.declared.Fault.{Fault}
 use Rattle.answer.specs.declared.Fault.TheVariants.{None, Store, Flag, Guest}
@@ -8,8 +8,6 @@ use Rattle.answer.specs.Refusals.{first_of}
 use Rattle.store.specs.declared.Layout.{Layout}
 use Rattle.store.specs.Header.{header, outside, live}
 use Rattle.store.specs.Store.{well_formed}
-use Rattle.admission.specs.declared.Admission.{Admission}
-use Rattle.admission.specs.declared.Admission.TheVariants.{Admitted, Refused}
 
 -- What a call leaves: its answer, the store, and the buffer that it writes (none: no byte).
 pub record Outcome : Type 0 where
@@ -54,8 +52,11 @@ abbrev pub not_live : Layout → List ℕ → ℕ → Bool × Fault
 not_live l s g = (not (live l (header l s) g), Guest)
 
 -- the answer of a function that only tests
+abbrev pub Admission : Type 0
+Admission = Result (Unit {0}) Fault
+
 abbrev pub judgement : List (Bool × Fault) → Admission
-judgement tests = first_of Refused tests Admitted
+judgement tests = first_of Err tests (Ok tt)
 
 -- 1 and 2, which every call with flags begins with
 unfoldable pub admission : Layout → List ℕ → ℕ → ℕ → Admission

@@ -18,7 +18,6 @@ use Rattle.elements.specs.Table.{table, below, same_scope, position, source_of, 
 use Rattle.rules.specs.Rules.{between, permits, allows, scope_for}
 use Rattle.elements.proofs.Table.{entry_rule, T_true, position_mono, source_stored}
 use Rattle.rules.proofs.Rules.{permits_listed, permits_scope, effect_not_buffer}
-use Rattle.gsb.specs.declared.Walked.TheVariants.{Done}
 use Rattle.gsb.specs.Walk.{count_of, id_at, offset_at, first_bad}
 use Rattle.gsb.proofs.Judged.{good_element}
 use Rattle.gsb.proofs.First.{all_good}
@@ -26,6 +25,7 @@ use Rattle.transfer.specs.Transfer.{applied}
 use Rattle.transfer.specs.Named.{Named}
 use Rattle.transfer.proofs.Named.{applied_frame}
 use Rattle.run.specs.Run.{input_size, output_size}
+use Rattle.std.proofs.Common.{Ok}
 
 -- thread elements begin at 0x0C00
 thread_from : (id : ℕ) (x : Entry) → kind_of id ≡ Listed x → x.scope ≡ Thread → 0x0C00 ≤ id
@@ -50,7 +50,7 @@ behind id x e s b =
     above true false a c h k = leb-false _ _ c
     above false q a c h k = let y : id < 0x0C00 = leb-false _ _ a in absurd (omega arith)
 
-module _ (k : Context) (u : k.usage ≡ InEffect) (base : ℕ) (e s : List ℕ) (d : first_bad k e ≡ Done) where
+module _ (k : Context) (u : k.usage ≡ InEffect) (base : ℕ) (e s : List ℕ) (d : first_bad k e ≡ Ok tt) where
   -- no byte before the third element is named
   spared : (i : ℕ) → i < base + 40 → Named base e (count_of e) i → ⊥
   spared i h n =

@@ -12,7 +12,6 @@ use Rattle.rules.specs.declared.Usage.TheVariants.{RunInput}
 use Rattle.rules.specs.declared.Context.{Context}
 use Rattle.elements.specs.Table.{table, find, kind_of, source_of, position, below, numbered, number_of, thread_element}
 use Rattle.rules.specs.Rules.{allows, permits}
-use Rattle.gsb.specs.declared.Walked.TheVariants.{Done}
 use Rattle.gsb.specs.Walk.{count_of, first_bad}
 use Rattle.gsb.specs.Message.{elements_bytes, message, Begins, Wire, elements_in}
 use Rattle.gsb.proofs.Messages.{length_message}
@@ -31,6 +30,7 @@ use Rattle.l1.proofs.Sent.{fit_append, fit_wire, fit_good}
 use Rattle.l1.proofs.Cells.{input_named, all_weight}
 use Rattle.l1.proofs.Pending.{weighed}
 use Rattle.agreement.proofs.Writes.{Latest, none, some, latest, placed, place, back, back_newest, due_length}
+use Rattle.std.proofs.Common.{Ok}
 
 -- ---- the list fits as its writes do
 fit_latest : (o : Offer) (id : ℕ) (es : List (ℕ × List ℕ)) → Latest o id es → Fit o es
@@ -67,7 +67,7 @@ due_applied o base s ws f b k =
     let q = due_fit o ws f 170 in
     applied_message base (in_order ws 170) b (fit_wire o (in_order ws 170) q (due_few o ws f 170)) k s ∙ place_all_lem o base (in_order ws 170) s q ∙ sym (back_newest o base s ws f)
 
-pub due_good : (k : Context) → k.usage ≡ RunInput → (ws : List (ℕ × List ℕ)) → Fit k.offer ws → (b : List ℕ) → Begins b (message (in_order ws 170)) → first_bad k b ≡ Done
+pub due_good : (k : Context) → k.usage ≡ RunInput → (ws : List (ℕ × List ℕ)) → Fit k.offer ws → (b : List ℕ) → Begins b (message (in_order ws 170)) → first_bad k b ≡ Ok tt
 due_good k u ws f b s = fit_good k u (in_order ws 170) b (due_fit k.offer ws f 170) (due_few k.offer ws f 170) s
 
 -- ---- read back, it is those writes

@@ -7,6 +7,7 @@ use native.Mathlib.Omega.{arith}
 use lib.Dec.{eqb, ltb, leb}
 use lib.ListN.{length}
 use borrow.Author.Tests.{le-ltb, ltb-false, leb-true, not-false, eqb-true, ne_eqb}
+use Rattle.std.specs.Prelude.{Ok, Err}
 use Rattle.octets.specs.Bytes.{bytes_at, put, zeros, right}
 use Rattle.octets.proofs.Bytes.{length_put, length_zeros, zeros_part}
 use Rattle.answer.specs.declared.Fault.{Fault}
@@ -20,9 +21,7 @@ use Rattle.elements.specs.Later.{offer_of}
 use Rattle.rules.specs.declared.Context.{Context}
 use Rattle.rules.specs.declared.Usage.TheVariants.{RunInput, Effect as InEffect}
 use Rattle.rules.specs.Rules.{good_input, good_output}
-use Rattle.gsb.specs.declared.Walked.{Walked}
-use Rattle.gsb.specs.declared.Walked.TheVariants.{Done, Stopped}
-use Rattle.gsb.specs.Walk.{count_of, first_bad, is_stopped, fault_of}
+use Rattle.gsb.specs.Walk.{count_of, first_bad, is_stopped, fault_of, Walked}
 use Rattle.gsb.specs.Message.{message, Begins}
 use Rattle.gsb.proofs.RoundTrip.{begins_self, begins_put, begins_first, zeros_good}
 use Rattle.store.specs.declared.Layout.{Layout}
@@ -34,9 +33,7 @@ use Rattle.transfer.specs.Transfer.{applied}
 use Rattle.transfer.proofs.Messages.{applied_zeros}
 use Rattle.exits.specs.Exits.{returned, valued, output_of}
 use Rattle.exits.proofs.Rows.{length_output, output_short, returned_few}
-use Rattle.admission.specs.declared.Admission.{Admission}
-use Rattle.admission.specs.declared.Admission.TheVariants.{Admitted, Refused}
-use Rattle.admission.specs.Refusals.{Outcome, success, refusal, refuse, decide, judgement, unsupported}
+use Rattle.admission.specs.Refusals.{Admission, Outcome, success, refusal, refuse, decide, judgement, unsupported}
 use Rattle.state.specs.State.{pvr_of, context_of}
 use Rattle.run.specs.Run.{run_bits, input_size, output_size, lent_tests, effect_fault, exit_tests, run_target_tests, input_of, content_tests, ran_store, ran, run_vcpu}
 use Rattle.admission.proofs.Judging.{begin_refused, begin_admitted, all_refused, all_admitted, judged_passed}
@@ -83,14 +80,14 @@ run_told (Missing id) n = refl
 run_told InUse n = refl
 
 -- a test that holds refuses with a fault
-real_fault : (xs : List (Bool × Fault)) → Real xs → (f : Fault) → judgement xs ≡ Refused f → f ≡ None → ⊥
+real_fault : (xs : List (Bool × Fault)) → Real xs → (f : Fault) → judgement xs ≡ Err f → f ≡ None → ⊥
 real_fault [] r f e = let z : ◌≡◌ {A = ℕ} 0 1 = cc in absurd (omega arith)
 real_fault (x ∷ xs) r f e = go x.0 refl e (real_fault xs r.1 f)
   where
-    same : {a b : Fault} → Refused a ≡ Refused b → a ≡ b
+    same : {a b : Fault} → ◌≡◌ {A = Admission} (Err a) (Err b) → a ≡ b
     same q = cc
 
-    go : (t : Bool) → x.0 ≡ t → cond t (Refused x.1) (judgement xs) ≡ Refused f → (judgement xs ≡ Refused f → f ≡ None → ⊥) → f ≡ None → ⊥
+    go : (t : Bool) → x.0 ≡ t → cond t (Err x.1) (judgement xs) ≡ Err f → (judgement xs ≡ Err f → f ≡ None → ⊥) → f ≡ None → ⊥
     go true q h ih n = r.0 q (same h ∙ n)
     go false q h ih n = ih h n
 
@@ -100,8 +97,8 @@ past_false refuse o [] f ys = refl
 past_false refuse o (x ∷ xs) f ys = ap (cond x.0 (refuse x.1)) (past_false refuse o xs f ys)
 
 effect_real : (w : Walked) → is_stopped w ≡ true → effect_fault w ≡ None → ⊥
-effect_real Done e q = let z : ◌≡◌ {A = ℕ} 0 1 = cc in omega arith
-effect_real (Stopped bad place) e q = let z : ◌≡◌ {A = ℕ} 0 1 = cc in omega arith
+effect_real (Ok _) e q = let z : ◌≡◌ {A = ℕ} 0 1 = cc in omega arith
+effect_real (Err stop) e q = let z : ◌≡◌ {A = ℕ} 0 1 = cc in omega arith
 
 module _ (l : Layout) (so : Sound l) (g v j : ℕ) (below_slots : j < l.slots) (pvr flags : ℕ) (input output effect : List ℕ) (exit : ℕ) where
   abbrev place : ℕ
@@ -157,7 +154,7 @@ module _ (l : Layout) (so : Sound l) (g v j : ℕ) (below_slots : j < l.slots) (
   or_left true b e = e
   or_left false b e = refl
 
-  common_lent : (h : List ℕ) (i o : ℕ) → judgement (common h i o) ≡ Admitted → Lent i o
+  common_lent : (h : List ℕ) (i o : ℕ) → judgement (common h i o) ≡ Ok tt → Lent i o
   unfolding common
   common_lent h i o e =
       let p = judged_passed (common h i o) e in
@@ -197,11 +194,11 @@ module _ (l : Layout) (so : Sound l) (g v j : ℕ) (below_slots : j < l.slots) (
         ap₂ (λ (xs : List (Bool × Fault)) (x : ℕ). first_of (refuse s output) (xs ++ content_tests l s g (input_of s x lent) effect exit) (ran x s (input_of s x lent) output effect exit))
         (run_target_common s o 0 (length lent) (omega arith) n) (ours_base l so g v j below_slots pvr s o)
 
-    run_off : (f : Fault) → judgement (common (header l s) (input_size s place) (output_size s place)) ≡ Refused f → run_vcpu l s flags g v lent output effect exit ≡ refuse s output f
+    run_off : (f : Fault) → judgement (common (header l s) (input_size s place) (output_size s place)) ≡ Err f → run_vcpu l s flags g v lent output effect exit ≡ refuse s output f
     run_off f e =
         run_as ∙ begin_refused (refuse s output) (ran place s counts output effect exit) (common (header l s) (input_size s place) (output_size s place)) (content_tests l s g counts effect exit) f e
 
-    run_on : judgement (common (header l s) (input_size s place) (output_size s place)) ≡ Admitted → first_bad (context_of l s g RunInput) counts ≡ Done
+    run_on : judgement (common (header l s) (input_size s place) (output_size s place)) ≡ Ok tt → first_bad (context_of l s g RunInput) counts ≡ Ok tt
         → run_vcpu l s flags g v lent output effect exit ≡ first_of (refuse s output) (ends s) (ran place s counts output effect exit)
     run_on e d =
         run_as ∙ begin_admitted (refuse s output) (ran place s counts output effect exit) (common (header l s) (input_size s place) (output_size s place)) (content_tests l s g counts effect exit) e
@@ -250,7 +247,7 @@ module _ (l : Layout) (so : Sound l) (g v j : ℕ) (below_slots : j < l.slots) (
     own_fit : Fit (offer_of (pvr_of l s g)) ws
     own_fit = subst (λ (n : ℕ). Fit (offer_of n) ws) (sym i.ours.told) i.fit
 
-    sent_good : first_bad (context_of l s g RunInput) (message (pending b.cache)) ≡ Done
+    sent_good : first_bad (context_of l s g RunInput) (message (pending b.cache)) ≡ Ok tt
     sent_good =
         ap (λ (es : List (ℕ × List ℕ)). first_bad (context_of l s g RunInput) (message es)) waits
         ∙ due_good (context_of l s g RunInput) refl ws own_fit (message (in_order ws 170)) (begins_self (message (in_order ws 170)))
@@ -270,11 +267,11 @@ module _ (l : Layout) (so : Sound l) (g v j : ℕ) (below_slots : j < l.slots) (
     blank_long : length blank ≡ length input
     blank_long = length_zeros (length input)
 
-    plain_off : (f : Fault) → judgement firsts ≡ Refused f → run_plain l p flags g v input output effect exit ≡ refuse p output f
+    plain_off : (f : Fault) → judgement firsts ≡ Err f → run_plain l p flags g v input output effect exit ≡ refuse p output f
     unfolding run_plain
     plain_off f e = run_off p plain_is blank blank_long f (ap judgement plain_firsts ∙ e)
 
-    module _ (e : judgement firsts ≡ Admitted) where
+    module _ (e : judgement firsts ≡ Ok tt) where
       open_lent : Lent (input_size s place) (output_size s place)
       open_lent = common_lent (header l s) (input_size s place) (output_size s place) e
 
@@ -315,7 +312,7 @@ module _ (l : Layout) (so : Sound l) (g v j : ℕ) (below_slots : j < l.slots) (
       unfolding ran
       left_by_lem t inp q = ap (λ (x : List ℕ). record { answer = success exit; store = x; buffer = put output 0 (output_of place x exit) }) q
 
-      cached_ran : judgement (ends s) ≡ Admitted → run_vcpu l s flags g v laid output effect exit ≡ left
+      cached_ran : judgement (ends s) ≡ Ok tt → run_vcpu l s flags g v laid output effect exit ≡ left
       cached_ran a =
           run_on s i.ours laid (length_put input 0 (message (pending b.cache))) e (due_good (context_of l s g RunInput) refl ws own_fit (bytes_at laid 0 (input_size s place)) laid_begins)
           ∙ all_admitted (refuse s output) (ran place s (bytes_at laid 0 (input_size s place)) output effect exit) (ends s) a
@@ -348,15 +345,15 @@ module _ (l : Layout) (so : Sound l) (g v j : ℕ) (below_slots : j < l.slots) (
         not_zero x h = ne_eqb x 0 h
 
     -- ---- after an accepted run
-    module _ (e : judgement firsts ≡ Admitted) (a : judgement (ends s) ≡ Admitted) where
-      walked : first_bad (context_of l p g InEffect) effect ≡ Done
+    module _ (e : judgement firsts ≡ Ok tt) (a : judgement (ends s) ≡ Ok tt) where
+      walked : first_bad (context_of l p g InEffect) effect ≡ Ok tt
       walked =
           let q = judged_passed (ends p) (ap judgement (ends_same s p i.ours plain_is same_header) ∙ a) in
           done (first_bad (context_of l p g InEffect) effect) q.1.1.0
         where
-          done : (w : Walked) → is_stopped w ≡ false → w ≡ Done
-          done Done d = refl
-          done (Stopped bad place) d = let y : ◌≡◌ {A = ℕ} 0 1 = cc in absurd (omega arith)
+          done : (w : Walked) → is_stopped w ≡ false → w ≡ Ok tt
+          done (Ok _) d = refl
+          done (Err stop) d = let y : ◌≡◌ {A = ℕ} 0 1 = cc in absurd (omega arith)
 
       abbrev then : List ℕ
       then = applied place effect (count_of effect) p
@@ -430,14 +427,14 @@ module _ (l : Layout) (so : Sound l) (g v j : ℕ) (below_slots : j < l.slots) (
     pub run_turn : Goes l so g v j below_slots pvr b op ws (cached_turn l g v pvr op b) (plain_turn l g v op p)
     run_turn = by_firsts (judgement firsts) refl
       where
-        by_ends : judgement firsts ≡ Admitted → (x : Admission) → judgement (ends s) ≡ x → Goes l so g v j below_slots pvr b op ws (cached_turn l g v pvr op b) (plain_turn l g v op p)
-        by_ends e Admitted q = accepted_turn e q
-        by_ends e (Refused f) q =
+        by_ends : judgement firsts ≡ Ok tt → (x : Admission) → judgement (ends s) ≡ x → Goes l so g v j below_slots pvr b op ws (cached_turn l g v pvr op b) (plain_turn l g v op p)
+        by_ends e (Ok tt) q = accepted_turn e q
+        by_ends e (Err f) q =
             ran_turn (refusedRun f) (refuse p output f) (cached_as ∙ begin_admitted refusedRun goneOn firsts (ends s) e ∙ all_refused refusedRun goneOn (ends s) f q)
             (plain_on e ∙ all_refused (refuse p output) (ran place p (zeros (input_size s place)) output effect exit) (ends s) f q) (refused_turn f (real_fault (ends s) (ends_real s) f q))
 
         by_firsts : (x : Admission) → judgement firsts ≡ x → Goes l so g v j below_slots pvr b op ws (cached_turn l g v pvr op b) (plain_turn l g v op p)
-        by_firsts Admitted e = by_ends e (judgement (ends s)) refl
-        by_firsts (Refused f) e =
+        by_firsts (Ok tt) e = by_ends e (judgement (ends s)) refl
+        by_firsts (Err f) e =
             ran_turn (refusedRun f) (refuse p output f) (cached_as ∙ begin_refused refusedRun goneOn firsts (ends s) f e) (plain_off f e)
             (refused_turn f (real_fault firsts (common_real (header l s) (input_size s place) (output_size s place)) f e))

@@ -17,9 +17,7 @@ use Rattle.rules.specs.declared.Usage.TheVariants.{ThreadGet, ThreadSet, RunInpu
 use Rattle.elements.specs.Table.{kind_of}
 use Rattle.rules.specs.Rules.{size_fits, good_value}
 use Rattle.rules.proofs.Rules.{value_get, value_run}
-use Rattle.gsb.specs.declared.Walked.{Walked}
-use Rattle.gsb.specs.declared.Walked.TheVariants.{Done, Stopped}
-use Rattle.gsb.specs.Walk.{count_of, first_bad, is_stopped, fault_of}
+use Rattle.gsb.specs.Walk.{count_of, first_bad, is_stopped, fault_of, Walked, stopped_at}
 use Rattle.gsb.specs.Message.{first_place}
 use Rattle.gsb.proofs.RoundTrip.{begins_self, wire_one, one_bad_length, one_element}
 use Rattle.elements.specs.declared.Offer.{Offer}
@@ -40,6 +38,7 @@ use Rattle.l1.specs.Cache.{place_zero, one, value_in}
 use Rattle.agreement.specs.Plain.{write_plain, read_plain}
 use Rattle.l1.proofs.Cells.{element_size, element_place, named_end, named_fits, allowed_as, input_allowed, set_as_input, get_as_readable, input_named, readable_named, value_of}
 use Rattle.agreement.proofs.Ours.{base, Ours, ours_base, ours_context, ours_room, ours_target}
+use Rattle.std.proofs.Common.{Ok}
 
 -- what a thread set takes beside the special ones has no value rule
 input_ruled : (f : Offer) (c id : ℕ) (b : List ℕ) (at : ℕ) → is_input f id ≡ true → good_value (record { usage = ThreadSet; capabilities = c; offer = f }) id b at ≡ true
@@ -112,34 +111,34 @@ module _ (l : Layout) (so : Sound l) (g v j : ℕ) (below : j < l.slots) (pvr : 
           ∙ ap₂ (λ (t : Bool) (x : Walked). cond t (turn Length) (cond (is_stopped x) (turn (fault_of x)) good)) (one_bad_length id w ∙ short) e
 
       walked : (usage : Usage) (p q r : Bool) → allowed list usage id ≡ p → size_fits (kind_of id) (length w) ≡ q → good_value (by usage) id (one id w) 8 ≡ r
-          → first_bad (by usage) (one id w) ≡ cond (not p) (Stopped Id first_place) (cond (not q) (Stopped Size first_place) (cond (not r) (Stopped Value first_place) Done))
+          → first_bad (by usage) (one id w) ≡ cond (not p) (stopped_at Id first_place) (cond (not q) (stopped_at Size first_place) (cond (not r) (stopped_at Value first_place) (Ok tt)))
       walked usage p q r a b c =
           one_element (by usage) id w small fits
-          ∙ ap₂ (λ (x y : Bool). cond (not x) (Stopped Id first_place) (cond (not y) (Stopped Size first_place) (cond (not (good_value (by usage) id (one id w) 8)) (Stopped Value first_place) Done))) (allowed_as (by usage) id ∙ a) b
-          ∙ ap (λ (z : Bool). cond (not p) (Stopped Id first_place) (cond (not q) (Stopped Size first_place) (cond (not z) (Stopped Value first_place) Done))) c
+          ∙ ap₂ (λ (x y : Bool). cond (not x) (stopped_at Id first_place) (cond (not y) (stopped_at Size first_place) (cond (not (good_value (by usage) id (one id w) 8)) (stopped_at Value first_place) (Ok tt)))) (allowed_as (by usage) id ∙ a) b
+          ∙ ap (λ (z : Bool). cond (not p) (stopped_at Id first_place) (cond (not q) (stopped_at Size first_place) (cond (not z) (stopped_at Value first_place) (Ok tt)))) c
 
       -- ---- not permitted
       pub write_id : is_input list id ≡ false → write_plain l s g v id w ≡ refuse s [] (Element Id first_place)
       write_id h =
           write_past ∙ set_past
-          ∙ judged (refuse s []) (accept 0 (applied at (one id w) (count_of (one id w)) s)) ThreadSet (Stopped Id first_place) (walked ThreadSet false (size_fits (kind_of id) (length w)) (good_value (by ThreadSet) id (one id w) 8) (set_as_input list id common ∙ h) refl refl)
+          ∙ judged (refuse s []) (accept 0 (applied at (one id w) (count_of (one id w)) s)) ThreadSet (stopped_at Id first_place) (walked ThreadSet false (size_fits (kind_of id) (length w)) (good_value (by ThreadSet) id (one id w) 8) (set_as_input list id common ∙ h) refl refl)
 
       pub read_id : is_readable list id ≡ false → read_plain l s g v id w ≡ refuse s (one id w) (Element Id first_place)
       read_id h =
           read_past ∙ get_past
-          ∙ judged (refuse s (one id w)) (fill_with s at (one id w)) ThreadGet (Stopped Id first_place) (walked ThreadGet false (size_fits (kind_of id) (length w)) (good_value (by ThreadGet) id (one id w) 8) (get_as_readable list id common ∙ h) refl refl)
+          ∙ judged (refuse s (one id w)) (fill_with s at (one id w)) ThreadGet (stopped_at Id first_place) (walked ThreadGet false (size_fits (kind_of id) (length w)) (good_value (by ThreadGet) id (one id w) 8) (get_as_readable list id common ∙ h) refl refl)
 
       -- ---- another size
       pub write_size : is_input list id ≡ true → eqb (length w) (element_of id).size ≡ false → write_plain l s g v id w ≡ refuse s [] (Element Size first_place)
       write_size h z =
           write_past ∙ set_past
-          ∙ judged (refuse s []) (accept 0 (applied at (one id w) (count_of (one id w)) s)) ThreadSet (Stopped Size first_place)
+          ∙ judged (refuse s []) (accept 0 (applied at (one id w) (count_of (one id w)) s)) ThreadSet (stopped_at Size first_place)
           (walked ThreadSet true false (good_value (by ThreadSet) id (one id w) 8) (set_as_input list id common ∙ h) (named_fits id (input_named list id h) (length w) ∙ z) refl)
 
       pub read_size : is_readable list id ≡ true → eqb (length w) (element_of id).size ≡ false → read_plain l s g v id w ≡ refuse s (one id w) (Element Size first_place)
       read_size h z =
           read_past ∙ get_past
-          ∙ judged (refuse s (one id w)) (fill_with s at (one id w)) ThreadGet (Stopped Size first_place)
+          ∙ judged (refuse s (one id w)) (fill_with s at (one id w)) ThreadGet (stopped_at Size first_place)
           (walked ThreadGet true false (good_value (by ThreadGet) id (one id w) 8) (get_as_readable list id common ∙ h) (named_fits id (readable_named list id h) (length w) ∙ z) refl)
 
       -- ---- good
@@ -147,7 +146,7 @@ module _ (l : Layout) (so : Sound l) (g v j : ℕ) (below : j < l.slots) (pvr : 
       write_good h z =
           let t = input_named list id h in
           write_past ∙ set_past
-          ∙ judged (refuse s []) (accept 0 (applied at (one id w) (count_of (one id w)) s)) ThreadSet Done
+          ∙ judged (refuse s []) (accept 0 (applied at (one id w) (count_of (one id w)) s)) ThreadSet (Ok tt)
           (walked ThreadSet true true true (set_as_input list id common ∙ h) (named_fits id t (length w) ∙ z) (input_ruled list _ id (one id w) 8 h))
           ∙ ap (accept 0) (applied_message at ((id, w) ∷ []) (one id w) (wire_one id w small fits) (begins_self (one id w)) s ∙ place_cons at id w [] s ∙ place_nil at _ ∙ thread_numbered id t.entry t.listed t.scope at w s)
 
@@ -155,7 +154,7 @@ module _ (l : Layout) (so : Sound l) (g v j : ℕ) (below : j < l.slots) (pvr : 
       pub get_good : is_readable list id ≡ true → eqb (length w) (element_of id).size ≡ true → get_state l s 0 g v (one id w) ≡ fill_with s at (one id w)
       get_good h z =
           get_past
-          ∙ judged (refuse s (one id w)) (fill_with s at (one id w)) ThreadGet Done
+          ∙ judged (refuse s (one id w)) (fill_with s at (one id w)) ThreadGet (Ok tt)
           (walked ThreadGet true true true (get_as_readable list id common ∙ h) (named_fits id (readable_named list id h) (length w) ∙ z) (value_get (by ThreadGet) id (one id w) 8 refl))
 
       pub read_good : is_readable list id ≡ true → eqb (length w) (element_of id).size ≡ true → read_plain l s g v id w ≡ fill_with s at (one id w)

@@ -1,5 +1,5 @@
 -- 01, "Answers": R3, R4 and R5 of each fault, laid out like its table.
-use Rattle.std.specs.Prelude.{ℕ, Bool, eqb}
+use Rattle.std.specs.Prelude.{ℕ, Bool, eqb, Result, Ok, Err}
 use Rattle.answer.specs.declared.Bad.{Bad}
 use Rattle.answer.specs.declared.Bad.TheVariants.{Id, Size, Value}
 use Rattle.answer.specs.declared.Place.{Place}
@@ -7,10 +7,16 @@ use Rattle.answer.specs.declared.RunBuffer.{RunBuffer}
 use Rattle.answer.specs.declared.RunBuffer.TheVariants.{Input, Output}
 use Rattle.answer.specs.declared.Fault.{Fault}
 use Rattle.answer.specs.declared.Fault.TheVariants.{None, Store, Flag, Guest, Token, Capability, Vcpu, Length, Element, Room, Exists, Unregistered, Short, Exit, Effect, Cache, Taken, Form, Records, Record, Missing, InUse}
+use Rattle.answer.specs.declared.Answer.{Answer}
 use Rattle.answer.specs.declared.Call.{Call}
 use Rattle.answer.specs.declared.Call.TheVariants.{FreshStore, GetCapabilities, SetCapabilities, CreateGuest, CreateVcpu, GetState, SetState, RunVcpu, DeleteGuest, GuestClock, Convert, Lookup, Join, WriteRecord, JudgeOutput, CacheWrite, CacheRead, CacheRun}
 use Rattle.answer.specs.declared.Shown.{Shown}
 use Rattle.answer.specs.declared.Registers.{Registers}
+
+-- "The answer carries the kind of fault": "0 | success" with what it tells, or the fault that a call met
+abbrev pub answer_of : Result ℕ Fault → Answer
+answer_of (Ok value) = record { fault = None; value = value }
+answer_of (Err fault) = record { fault = fault; value = 0 }
 
 -- the row "6 / 7 / 8", "invalid element ID / size / value"
 abbrev pub bad_number : Bad → ℕ

@@ -2,7 +2,7 @@
 #![tactic(auto)]
 
 ghost use Rattle.std.specs.Prelude.{◌≡◌};
-ghost use Rattle.answer.specs.Answer.{bad_number, buffer_number, place_shown, with_place, told};
+ghost use Rattle.answer.specs.Answer.{answer_of, bad_number, buffer_number, place_shown, with_place, told};
 
 // What is wrong with an element.
 #[derive(Clone, Copy)]
@@ -115,22 +115,38 @@ pub fn refusal(fault: Fault) -> Answer
     Answer { fault, value: 0 }
 }
 
-fn bad_number(b: Bad) -> u64
-    ensures { result ≡ bad_number b }
-{
-    match b {
-        Bad::Id => 6,
-        Bad::Size => 7,
-        Bad::Value => 8,
+// What a call tells or the fault that it met: inside a call tests are left by `?`, and its entry makes the answer.
+impl From<Result<u64, Fault>> for Answer {
+    ghost from_gives = { λ told a. a ≡ answer_of told };
+
+    fn from(told: Result<u64, Fault>) -> Answer {
+        match told {
+            Ok(value) => success(value),
+            Err(fault) => refusal(fault),
+        }
     }
 }
 
-fn buffer_number(b: RunBuffer) -> u64
-    ensures { result ≡ buffer_number b }
-{
-    match b {
-        RunBuffer::Input => 0,
-        RunBuffer::Output => 1,
+impl From<Bad> for u64 {
+    ghost from_gives = { λ bad n. n ≡ bad_number bad };
+
+    fn from(bad: Bad) -> u64 {
+        match bad {
+            Bad::Id => 6,
+            Bad::Size => 7,
+            Bad::Value => 8,
+        }
+    }
+}
+
+impl From<RunBuffer> for u64 {
+    ghost from_gives = { λ buffer n. n ≡ buffer_number buffer };
+
+    fn from(buffer: RunBuffer) -> u64 {
+        match buffer {
+            RunBuffer::Input => 0,
+            RunBuffer::Output => 1,
+        }
     }
 }
 
@@ -150,24 +166,10 @@ fn place_shown(c: Call, p: Place) -> Shown
     };
     let no_place = Shown { r4: 0, r5: 0 };
     match c {
-        Call::FreshStore => no_place,
-        Call::GetCapabilities => no_place,
-        Call::SetCapabilities => no_place,
-        Call::CreateGuest => no_place,
-        Call::CreateVcpu => no_place,
-        Call::GetState => index_first,
-        Call::SetState => index_first,
-        Call::RunVcpu => offset_first,
-        Call::DeleteGuest => no_place,
-        Call::GuestClock => no_place,
-        Call::Convert => no_place,
-        Call::Lookup => index_first,
-        Call::Join => index_first,
-        Call::WriteRecord => no_place,
-        Call::JudgeOutput => index_first,
-        Call::CacheWrite => no_place,
-        Call::CacheRead => no_place,
-        Call::CacheRun => offset_first,
+        Call::GetState | Call::SetState | Call::Lookup | Call::Join | Call::JudgeOutput =>
+            index_first,
+        Call::RunVcpu | Call::CacheRun => offset_first,
+        _ => no_place,
     }
 }
 
@@ -187,21 +189,19 @@ fn with_place(r3: u64, place: Shown) -> Registers
 pub fn registers_of(c: Call, a: Answer) -> Registers
     ensures { result ≡ told c a.fault a.value }
 {
-    let fault = a.fault;
-    match fault {
+    match a.fault {
         Fault::None => three(0, a.value, 0),
         Fault::Store => three(1, 0, 0),
         Fault::Flag(bit) => three(2, bit, 0),
-        Fault::Guest => three(3, 0, 0),
-        Fault::Token => three(3, 0, 0),
+        Fault::Guest | Fault::Token => three(3, 0, 0),
         Fault::Capability => three(3, 1, 0),
         Fault::Vcpu => three(4, 0, 0),
         Fault::Length => three(5, 0, 0),
-        Fault::Element(bad, place) => with_place(bad_number(bad), place_shown(c, place)),
+        Fault::Element(bad, place) => with_place(u64::from(bad), place_shown(c, place)),
         Fault::Room => three(9, 0, 0),
         Fault::Exists => three(10, 0, 0),
-        Fault::Unregistered(buffer) => three(11, buffer_number(buffer), 0),
-        Fault::Short(buffer) => three(12, buffer_number(buffer), 0),
+        Fault::Unregistered(buffer) => three(11, u64::from(buffer), 0),
+        Fault::Short(buffer) => three(12, u64::from(buffer), 0),
         Fault::Exit => three(13, 0, 0),
         Fault::Effect(place) => with_place(14, place_shown(c, place)),
         Fault::Cache => three(15, 0, 0),

@@ -56,7 +56,7 @@ fn run(
             marks,
             &mut input,
             &mut output,
-            &b[0..end],
+            &b[..end],
             an_exit(x),
         ),
     );
@@ -80,20 +80,15 @@ fn turn(
         Operation::Other => other(store, x, seen.all),
         Operation::Run => return run(store, values, marks, pvr, x, seen),
     };
-    Seen {
-        all,
-        inputs: seen.inputs,
-    }
+    Seen { all, ..seen }
 }
 
 fn turns(store: &mut [u8], values: &mut [u8], marks: &mut [u64], pvr: u32) -> Seen {
     let mut seen = Seen { all: 1, inputs: 1 };
     let mut x = SEED;
-    let mut i = 0;
-    while i < OPERATIONS {
+    for _ in 0..OPERATIONS {
         x = next(x);
         seen = turn(store, values, marks, pvr, x, seen);
-        i += 1;
     }
     seen
 }

@@ -1,7 +1,6 @@
 // One number for all that was seen: 32 bits, to which each further number is added.
 use answer::{Answer, Call, Registers, registers_of};
 use gsb::lookup_value;
-use octets::wide;
 
 fn mix(digest: u64, n: u64) -> u64 {
     (digest % 0x1_0000_0000 * 31 + n % 0x1_0000_0000) % 0x1_0000_0000
@@ -16,13 +15,7 @@ pub fn mix_answer(digest: u64, call: Call, told: Answer) -> u64 {
 }
 
 pub fn mix_bytes(digest: u64, b: &[u8]) -> u64 {
-    let mut d = digest;
-    let mut i = 0;
-    while i < b.len() {
-        d = mix(d, wide(b[i]));
-        i += 1;
-    }
-    d
+    b.iter().fold(digest, |d, &x| mix(d, u64::from(x)))
 }
 
 // After an accepted run the L1 looks GPR 3 up in the output, and the store is seen too.

@@ -25,39 +25,25 @@ pub fn next(x: u64) -> u64 {
 
 // Writes mostly, then reads.
 pub fn an_operation(x: u64) -> Operation {
-    let kind = x / 65536 % 8;
-    if kind < 4 {
-        return Operation::Write;
+    match x / 65536 % 8 {
+        0..=3 => Operation::Write,
+        4..=5 => Operation::Read,
+        6 => Operation::Other,
+        _ => Operation::Run,
     }
-    if kind < 6 {
-        return Operation::Read;
-    }
-    if kind < 7 {
-        return Operation::Other;
-    }
-    Operation::Run
 }
 
 // An ID of every kind: registers mostly; unlisted ones, the NOP and the run buffers among them.
 pub fn an_id(x: u64) -> u16 {
     let n = (x / 4096 % 4096) as u16;
-    let kind = x / 256 % 8;
-    if kind < 3 {
-        return 0x1000 + n % 0x55;
+    match x / 256 % 8 {
+        0..=2 => 0x1000 + n % 0x55,
+        3..=4 => 0x3000 + n % 0x40,
+        5 => 0x2000 + n % 0x10,
+        6 => 0xF000 + n % 4,
+        _ if n % 4 == 0 => 0,
+        _ => 0x0C00 + n % 3,
     }
-    if kind < 5 {
-        return 0x3000 + n % 0x40;
-    }
-    if kind < 6 {
-        return 0x2000 + n % 0x10;
-    }
-    if kind < 7 {
-        return 0xF000 + n % 4;
-    }
-    if n % 4 == 0 {
-        return 0;
-    }
-    0x0C00 + n % 3
 }
 
 // The listed size mostly, else one that no element has.
@@ -91,11 +77,9 @@ pub fn a_byte(x: u64) -> u8 {
 
 fn fill(b: &mut [u8], x: u64) {
     let mut n = x;
-    let mut i = 0;
-    while i < b.len() {
+    for byte in b.iter_mut() {
         n = next(n);
-        b[i] = a_byte(n);
-        i += 1;
+        *byte = a_byte(n);
     }
 }
 

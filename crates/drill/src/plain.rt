@@ -12,38 +12,24 @@ const HAND_OVER: u64 = 0x4000_0000_0000_0000;
 
 // The NOP and the two run buffers, which no L1 writes or reads.
 fn is_special(id: u16) -> bool {
-    if id == 0 {
-        return true;
-    }
-    if id < 0x0C00 {
-        return false;
-    }
-    id < 0x0C02
+    matches!(id, 0 | 0x0C00 | 0x0C01)
 }
 
-fn six() -> Registers {
-    Registers {
-        r3: 6,
-        r4: 0,
-        r5: 0,
-    }
-}
+const SIX: Registers = Registers {
+    r3: 6,
+    r4: 0,
+    r5: 0,
+};
 
 // What a cache write or read tells: R5 0 where set or get state has 4.
 fn as_cached(told: Registers) -> Registers {
-    if told.r3 < 6 {
-        return told;
-    }
-    if told.r3 > 8 {
-        return told;
-    }
-    if told.r5 != 4 {
-        return told;
-    }
-    Registers {
-        r3: told.r3,
-        r4: told.r4,
-        r5: 0,
+    match told {
+        Registers {
+            r3: 6..=8,
+            r5: 4,
+            ..
+        } => Registers { r5: 0, ..told },
+        _ => told,
     }
 }
 
@@ -53,20 +39,20 @@ fn set(store: &mut [u8], guest: u64, x: u64) -> Registers {
     let end = e.end;
     registers_of(
         Call::SetState,
-        state::set_state(store, 0, guest, 0, &b[0..end]),
+        state::set_state(store, 0, guest, 0, &b[..end]),
     )
 }
 
 fn write(store: &mut [u8], x: u64, digest: u64) -> u64 {
     if is_special(an_id(x)) {
-        return mix_registers(digest, six());
+        return mix_registers(digest, SIX);
     }
     mix_registers(digest, as_cached(set(store, 1, x)))
 }
 
 fn get(store: &mut [u8], id: u16, buffer: &mut [u8]) -> Registers {
     if is_special(id) {
-        return six();
+        return SIX;
     }
     as_cached(registers_of(Call::GetState, state::get_state(store, 0, 1, 0, buffer)))
 }
@@ -76,7 +62,7 @@ fn read(store: &mut [u8], x: u64, digest: u64) -> u64 {
     let mut bytes = e.bytes;
     let end = e.end;
     let b: &mut [u8] = &mut bytes;
-    let told = get(store, e.id, &mut b[0..end]);
+    let told = get(store, e.id, &mut b[..end]);
     let whole: &[u8] = b;
     mix_bytes(mix_registers(digest, told), &whole[8..end])
 }
@@ -90,7 +76,7 @@ fn run(store: &mut [u8], x: u64, digest: u64) -> u64 {
     let mut output = [a_byte(x); 128];
     let told = registers_of(
         Call::RunVcpu,
-        run::run_vcpu(store, 0, 1, 0, &input, &mut output, &b[0..end], an_exit(x)),
+        run::run_vcpu(store, 0, 1, 0, &input, &mut output, &b[..end], an_exit(x)),
     );
     mix_run(digest, told, &output, store)
 }
@@ -115,14 +101,11 @@ fn give(store: &mut [u8]) -> Registers {
 
 // A call on guest 2, which both L1s make: a set, or its vCPU is taken or given back.
 pub fn other(store: &mut [u8], x: u64, digest: u64) -> u64 {
-    let kind = x / 524288 % 4;
-    if kind == 0 {
-        return take(store, x, digest);
+    match x / 524288 % 4 {
+        0 => take(store, x, digest),
+        1 => mix_registers(digest, give(store)),
+        _ => mix_registers(digest, set(store, 2, next(x))),
     }
-    if kind == 1 {
-        return mix_registers(digest, give(store));
-    }
-    mix_registers(digest, set(store, 2, next(x)))
 }
 
 fn turn(store: &mut [u8], x: u64, digest: u64) -> u64 {
@@ -137,11 +120,9 @@ fn turn(store: &mut [u8], x: u64, digest: u64) -> u64 {
 fn turns(store: &mut [u8]) -> u64 {
     let mut digest = 1;
     let mut x = SEED;
-    let mut i = 0;
-    while i < OPERATIONS {
+    for _ in 0..OPERATIONS {
         x = next(x);
         digest = turn(store, x, digest);
-        i += 1;
     }
     digest
 }

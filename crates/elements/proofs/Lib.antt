@@ -1,5 +1,4 @@
 pub mod Find
-pub mod Codes
 pub mod Table
 pub mod Later
 pub mod Ranges

@@ -10,6 +10,7 @@ use native.Mathlib.Omega.{arith}
 use lib.Dec.{T, ltb, leb, eqb, leb→le, eqb→eq}
 use borrow.Author.Tests.{leb-true, leb-false, ltb-true, ltb-false, le-leb, lt-leb, lt-ltb, le-ltb}
 use Rattle.elements.specs.declared.Access.{Access}
+use Rattle.elements.specs.declared.Access.TheVariants.{Read, Write, ReadWrite}
 use Rattle.elements.specs.declared.Scope.{Scope}
 use Rattle.elements.specs.declared.Scope.TheVariants.{Guest, Thread}
 use Rattle.elements.specs.declared.Row.{Row}
@@ -18,11 +19,32 @@ use Rattle.elements.specs.declared.Kind.TheVariants.{Listed}
 use Rattle.elements.specs.declared.Element.{Element}
 use Rattle.elements.specs.Table.{table, row, many, names, find, below, bytes_in, threads, numbered, same_scope, source_of, position}
 use Rattle.elements.specs.Ranges.{ranges, TellSame}
-use Rattle.elements.specs.Private.{access_code, scope_code}
-use Rattle.elements.proofs.Codes.{access_of, scope_of, access_back, scope_back}
 use Rattle.elements.proofs.Table.{and_left, and_right, by}
 
 -- ---- neighbours that are alike, joined
+
+abbrev same_access : Access → Access → Bool
+same_access Read Read = true
+same_access Write Write = true
+same_access ReadWrite ReadWrite = true
+same_access a b = false
+
+access_equal : (a b : Access) → T (same_access a b) → a ≡ b
+access_equal Read Read t = refl
+access_equal Write Write t = refl
+access_equal ReadWrite ReadWrite t = refl
+access_equal Read Write t = absurd t
+access_equal Read ReadWrite t = absurd t
+access_equal Write Read t = absurd t
+access_equal Write ReadWrite t = absurd t
+access_equal ReadWrite Read t = absurd t
+access_equal ReadWrite Write t = absurd t
+
+scope_equal : (s t : Scope) → T (same_scope s t) → s ≡ t
+scope_equal Guest Guest h = refl
+scope_equal Thread Thread h = refl
+scope_equal Guest Thread h = absurd h
+scope_equal Thread Guest h = absurd h
 
 abbrev alike : Row → Row → Bool
 alike r s =
@@ -30,8 +52,8 @@ alike r s =
     && (leb r.first r.last
     && (leb s.first s.last
     && (eqb r.size s.size
-    && (eqb (access_code r.access) (access_code s.access)
-    && (eqb (scope_code r.scope) (scope_code s.scope)
+    && (same_access r.access s.access
+    && (same_scope r.scope s.scope
     && (eqb (bytes_in Guest r) (bytes_in Guest s) && eqb (bytes_in Thread r) (bytes_in Thread s)))))))
 
 abbrev join : Row → Row → Row
@@ -64,17 +86,15 @@ are_alike r s t =
     let b = and_right (leb r.first r.last) _ a in
     let c = and_right (leb s.first s.last) _ b in
     let d = and_right (eqb r.size s.size) _ c in
-    let e = and_right (eqb (access_code r.access) (access_code s.access)) _ d in
-    let f = and_right (eqb (scope_code r.scope) (scope_code s.scope)) _ e in
-    let access_same : access_code r.access ≡ access_code s.access = eqb→eq _ _ (and_left (eqb (access_code r.access) (access_code s.access)) _ d) in
-    let scope_same : scope_code r.scope ≡ scope_code s.scope = eqb→eq _ _ (and_left (eqb (scope_code r.scope) (scope_code s.scope)) _ e) in
+    let e = and_right (same_access r.access s.access) _ d in
+    let f = and_right (same_scope r.scope s.scope) _ e in
     record {
       meets = eqb→eq _ _ (and_left (eqb (suc r.last) s.first) _ t);
       upward = leb→le _ _ (and_left (leb r.first r.last) _ a);
       onward = leb→le _ _ (and_left (leb s.first s.last) _ b);
       size = eqb→eq _ _ (and_left (eqb r.size s.size) _ c);
-      access = sym (access_back r.access) ∙ ap access_of access_same ∙ access_back s.access;
-      scope = sym (scope_back r.scope) ∙ ap scope_of scope_same ∙ scope_back s.scope;
+      access = access_equal r.access s.access (and_left (same_access r.access s.access) _ d);
+      scope = scope_equal r.scope s.scope (and_left (same_scope r.scope s.scope) _ e);
       weight = each_scope r s (eqb→eq _ _ (and_left (eqb (bytes_in Guest r) (bytes_in Guest s)) _ f)) (eqb→eq _ _ (and_right (eqb (bytes_in Guest r) (bytes_in Guest s)) _ f));
     }
 

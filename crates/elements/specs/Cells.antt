@@ -1,6 +1,7 @@
 -- A thread element by its ID, for the L1 cache: its number, its size and where its value lies, looked up once.
-use Rattle.std.specs.Prelude.{ℕ, cond, eqb}
+use Rattle.std.specs.Prelude.{ℕ, Option, Some, None}
 use Rattle.elements.specs.declared.Cell.{Cell}
+use Rattle.elements.specs.declared.Register.{Register}
 use Rattle.elements.specs.Table.{number_of, thread_element}
 use Rattle.elements.specs.Registers.{register_of}
 
@@ -8,9 +9,10 @@ use Rattle.elements.specs.Registers.{register_of}
 unfoldable pub cell_of : ℕ → Cell
 cell_of id = record { number = number_of id; size = (thread_element (number_of id)).size; position = (thread_element (number_of id)).position }
 
-abbrev pub no_cell : Cell
-no_cell = record { number = 0; size = 0; position = 0 }
-
 -- of a register only
-unfoldable pub register_cell : ℕ → Cell
-register_cell id = cond (eqb (register_of id).size 0) no_cell (cell_of id)
+abbrev pub cell_for : Option Register → ℕ → Option Cell
+cell_for None id = None
+cell_for (Some r) id = Some (cell_of id)
+
+unfoldable pub register_cell : ℕ → Option Cell
+register_cell id = cell_for (register_of id) id

@@ -1,9 +1,7 @@
 -- Names that only laws and the contracts of private functions use.
 use Rattle.std.specs.Prelude.{ℕ, zero, suc, ◌+◌, ◌-◌, ◌*◌, cond, List, [], ◌∷◌, ltb, leb, eqb}
 use Rattle.elements.specs.declared.Access.{Access}
-use Rattle.elements.specs.declared.Access.TheVariants.{Read, Write, ReadWrite}
-use Rattle.elements.specs.declared.Scope.{Scope}
-use Rattle.elements.specs.declared.Scope.TheVariants.{Guest, Thread}
+use Rattle.elements.specs.declared.Scope.TheVariants.{Thread}
 use Rattle.elements.specs.declared.Row.{Row}
 use Rattle.elements.specs.declared.Source.{Source}
 use Rattle.elements.specs.declared.Source.TheVariants.{Fixed, Stored}
@@ -12,19 +10,6 @@ use Rattle.elements.specs.declared.Kind.TheVariants.{Unlisted, Listed}
 use Rattle.elements.specs.declared.Element.{Element}
 use Rattle.elements.specs.Table.{many, bytes_in}
 use Rattle.elements.specs.Ranges.{range_at}
-
--- a row as the five numbers of the constant
-abbrev pub access_code : Access → ℕ
-access_code Read = 1
-access_code Write = 2
-access_code ReadWrite = 3
-
-abbrev pub scope_code : Scope → ℕ
-scope_code Guest = 0
-scope_code Thread = 1
-
-abbrev pub codes : Row → List ℕ
-codes r = r.first ∷ r.last ∷ r.size ∷ access_code r.access ∷ scope_code r.scope ∷ []
 
 -- a listed element of a slot
 abbrev pub thread_kind : ℕ → Access → ℕ → Kind

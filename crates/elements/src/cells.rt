@@ -1,48 +1,40 @@
 // A thread element by its ID, all that the L1 cache asks of one: a register's cell by literals, as in `registers`, any other's by
 // the table.
-ghost use Rattle.std.specs.Prelude.{◌≡◌, ◌<◌};
+ghost use Rattle.std.specs.Prelude.{◌≡◌, Some};
 ghost use Rattle.elements.specs.Table.{number_of};
 ghost use Rattle.elements.specs.Registers.{register_of};
 ghost use Rattle.elements.specs.Cells.{cell_of, register_cell};
 
-use super::Cell;
 use super::numbers::{number_of, thread_element};
 use super::registers::register_of;
+use super::{Cell, Register};
 
-// The number of a register of this size.
-fn register_number(size: usize, id: u16) -> usize
-    requires { ((register_of id).size ≡ size) × (0 < size) }
+#[tactic(auto, using(crate::proofs::CellLaws::by_size))]
+fn register_number(r: Register, id: u16) -> usize
+    requires { Some r ≡ register_of id }
     ensures { result ≡ number_of id }
 {
     let n = id as usize;
-    if size == 8 {
-        return 3 + (n - 0x1000);
+    match r.size {
+        8 => 3 + (n - 0x1000),
+        16 => 102 + (n - 0x3000),
+        _ => 87 + (n - 0x2000),
     }
-    if size == 16 {
-        return 102 + (n - 0x3000);
-    }
-    87 + (n - 0x2000)
 }
 
-pub fn register_cell(id: u16) -> Cell
+#[tactic(auto, using(crate::proofs::CellLaws::by_found))]
+pub fn register_cell(id: u16) -> Option<Cell>
     ensures { result ≡ register_cell id }
 {
-    let r = register_of(id);
-    if r.size == 0 {
-        return Cell {
-            number: 0,
-            size: 0,
-            position: 0,
-        };
-    }
-    Cell {
-        number: register_number(r.size, id),
+    let r = register_of(id)?;
+    Some(Cell {
+        number: register_number(r, id),
         size: r.size,
         position: r.position,
-    }
+    })
 }
 
-// What the table says of any ID.
+// The cell of the ID's number, for every ID: one of no size where no thread element has an ID as high.
 pub fn listed_cell(id: u16) -> Cell
     ensures { result ≡ cell_of id }
 {

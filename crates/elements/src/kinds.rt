@@ -9,13 +9,11 @@ use super::{Entry, Kind, Row, Source};
 fn source_at(id: u16, position: usize) -> Source
     ensures { result ≡ source_at id position }
 {
-    if id == 0x0001 {
-        return Source::Fixed(1844);
+    match id {
+        0x0001 => Source::Fixed(1844),
+        0x0002 => Source::Fixed(124),
+        _ => Source::Stored(position),
     }
-    if id == 0x0002 {
-        return Source::Fixed(124);
-    }
-    Source::Stored(position)
 }
 
 // An ID that the row names, with so many bytes before the row's.
@@ -23,14 +21,11 @@ fn listed(row: Row, id: u16, at: usize) -> Kind
     requires { (row.first ≤ id) × (at + bytes_each row * (id - row.first) < 2 ^ 64) }
     ensures { result ≡ listed_as row id at }
 {
-    let access = row.access;
-    let scope = row.scope;
-    let source = source_at(id, at + bytes_each(row) * (id - row.first) as usize);
     Kind::Listed(Entry {
-        size: row.size as usize,
-        access,
-        scope,
-        source,
+        size: row.size,
+        access: row.access,
+        scope: row.scope,
+        source: source_at(id, at + bytes_each(row) * (id - row.first) as usize),
     })
 }
 
@@ -40,8 +35,7 @@ fn scan(id: u16, from: usize, end: usize) -> Kind
     ensures { result ≡ scanned (ranges_from (end - from) from) id 0 }
 {
     let mut at = 0;
-    let mut i = from;
-    while i < end {
+    for i in from..end {
         let row = row_at(i);
         if id < row.first {
             return Kind::Unlisted;
@@ -49,8 +43,7 @@ fn scan(id: u16, from: usize, end: usize) -> Kind
         if id <= row.last {
             return listed(row, id, at);
         }
-        at = at + bytes_of(row);
-        i += 1;
+        at += bytes_of(row);
     }
     Kind::Unlisted
 }

@@ -34,7 +34,7 @@ pub enum Scope {
 pub struct Row {
     pub first: u16,
     pub last: u16,
-    pub size: u16,
+    pub size: usize,
     pub access: Access,
     pub scope: Scope,
 }
@@ -77,14 +77,14 @@ pub struct Element {
     pub position: usize,
 }
 
-// A register: its size, 0 where an ID is none, and where its value lies in a slot's values.
+// A register: its size, and where its value lies in a slot's values.
 #[derive(Clone, Copy)]
 pub struct Register {
     pub size: usize,
     pub position: usize,
 }
 
-// A thread element by its ID: its number, its size, 0 where there is none, and where its value lies in a slot's values.
+// A thread element by its ID: its number, its size, and where its value lies in a slot's values.
 #[derive(Clone, Copy)]
 pub struct Cell {
     pub number: usize,

@@ -4,7 +4,8 @@ ghost use Rattle.elements.specs.Later.{is_later, offer_of, offers};
 
 use super::Offer;
 
-// What came after POWER9: first ID, last ID.
+// What came after POWER9: first ID, last ID. Pairs and tests of them by `|`: a `match`, `matches!` and a word of bits were tried, and each made the
+// walk over a buffer take more stack than its deepest caller has, or more instructions for a POWER9 guest.
 const LATER: [[u16; 2]; 6] = [
     [0x1031, 0x1031],
     [0x103E, 0x103E],

@@ -10,8 +10,7 @@ pub fn number_of(id: u16) -> usize
     ensures { result ≡ number_of id }
 {
     let mut n = 0;
-    let mut i = GUEST_ROWS;
-    while i < ALL_ROWS {
+    for i in GUEST_ROWS..ALL_ROWS {
         let row = row_at(i);
         if id < row.first {
             return n;
@@ -19,8 +18,7 @@ pub fn number_of(id: u16) -> usize
         if id <= row.last {
             return n + (id - row.first) as usize;
         }
-        n = n + many(row);
-        i += 1;
+        n += many(row);
     }
     n
 }
@@ -31,20 +29,18 @@ pub fn thread_element(e: usize) -> Element
 {
     let mut left = e;
     let mut at = 0;
-    let mut i = GUEST_ROWS;
-    while i < ALL_ROWS {
+    for i in GUEST_ROWS..ALL_ROWS {
         let row = row_at(i);
         let n = many(row);
         if left < n {
             return Element {
                 id: row.first + left as u16,
-                size: row.size as usize,
+                size: row.size,
                 position: at + bytes_each(row) * left,
             };
         }
-        at = at + bytes_of(row);
-        left = left - n;
-        i += 1;
+        at += bytes_of(row);
+        left -= n;
     }
     Element {
         id: 0,

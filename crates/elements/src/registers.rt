@@ -1,6 +1,6 @@
 // The registers by literals: a walk and a move ask once an element, so these are the few order tests that they need. Both functions are
 // proved equal to the table, and no other place restates it.
-ghost use Rattle.std.specs.Prelude.{◌≡◌, ◌&&◌, leb};
+ghost use Rattle.std.specs.Prelude.{◌≡◌};
 ghost use Rattle.elements.specs.Registers.{register_of, is_header};
 
 use super::Register;
@@ -17,56 +17,43 @@ const VECTOR: usize = 0x3000;
 
 const LAST_VECTOR: usize = 0x303F;
 
-fn from_to(low: usize, high: usize, n: usize) -> bool
-    ensures { result ≡ leb low n && leb n high }
-{
-    if n < low {
-        return false;
-    }
-    n <= high
-}
-
-// The size of a register and where its value lies in a slot's values.
-pub fn register_of(id: u16) -> Register
+// The size of a register and where its value lies in a slot's values. A test for each range, in the order of how often they are met: a `match`
+// over all three tests in the order of the IDs.
+#[tactic(auto, using(crate::proofs::RegisterLaws::by_range))]
+pub fn register_of(id: u16) -> Option<Register>
     ensures { result ≡ register_of id }
 {
     let n = id as usize;
-    if from_to(DOUBLE, LAST_DOUBLE, n) {
-        return Register {
+    if matches!(n, DOUBLE..=LAST_DOUBLE) {
+        return Some(Register {
             size: 8,
             position: 40 + 8 * (n - DOUBLE),
-        };
+        });
     }
-    if from_to(VECTOR, LAST_VECTOR, n) {
-        return Register {
+    if matches!(n, VECTOR..=LAST_VECTOR) {
+        return Some(Register {
             size: 16,
             position: 772 + 16 * (n - VECTOR),
-        };
+        });
     }
-    if from_to(WORD, LAST_WORD, n) {
-        return Register {
+    if matches!(n, WORD..=LAST_WORD) {
+        return Some(Register {
             size: 4,
             position: 712 + 4 * (n - WORD),
-        };
+        });
     }
-    Register {
-        size: 0,
-        position: 0,
-    }
+    None
 }
 
 // Whether a header, its size above its ID, is that of a register of this size: one test where ID and size are read as one number.
+#[tactic(auto, using(crate::proofs::RegisterLaws::by_header))]
 pub fn is_register(size: usize, header: usize) -> bool
     ensures { result ≡ is_header size header }
 {
-    if size == 8 {
-        return from_to(0x8_0000 + DOUBLE, 0x8_0000 + LAST_DOUBLE, header);
+    match size {
+        8 => matches!(header, 0x8_1000..=0x8_1053),
+        16 => matches!(header, 0x10_3000..=0x10_303F),
+        4 => matches!(header, 0x4_2000..=0x4_200E),
+        _ => false,
     }
-    if size == 16 {
-        return from_to(0x10_0000 + VECTOR, 0x10_0000 + LAST_VECTOR, header);
-    }
-    if size == 4 {
-        return from_to(0x4_0000 + WORD, 0x4_0000 + LAST_WORD, header);
-    }
-    false
 }

@@ -1,16 +1,17 @@
 -- A row's elements written one behind the other: the one computed test that they fit, and the laws of the loop. Assumes nothing.
-use mathlib.Core.Path.{◌≡◌, refl, sym, ap, ◌∙◌, subst}
-use mathlib.Core.Bool.{Bool, true, false, ◌&&◌, cond}
+use mathlib.Core.Path.{◌≡◌, refl, sym, ap, ◌∙◌}
+use mathlib.Core.Bool.{Bool, true, false, ◌&&◌, cond, false≢true}
 use mathlib.Core.List.{List, [], ◌∷◌, ◌++◌}
-use Prim.Native.Nat.{ℕ, zero, suc, ◌+◌, ◌-◌, ◌≤◌, ◌<◌, ◌^◌}
+use denote.Bor.{Bor}
+use Prim.Native.Nat.{ℕ, zero, suc, ◌+◌, ◌≤◌, ◌<◌, ◌^◌}
 use native.Mathlib.Nat.{not-suc-le-zero, le_of_suc-le-suc}
 use native.Mathlib.Numerals.{add-one}
 use native.Mathlib.Omega.{arith}
 use lib.Dec.{ltb, leb, eqb}
-use lib.ListN.{length, get_or, take, get_or-append}
-use lib.Seq.{take-suc, take_all}
+use lib.ListN.{length, get_or, take}
+use lib.Seq.{take-suc}
 use borrow.Author.Tests.{leb-true, ltb-true}
-use Rattle.octets.specs.Bytes.{bytes_at, put, zeros}
+use Rattle.octets.specs.Bytes.{bytes_at, put}
 use Rattle.octets.proofs.Bytes.{length_bytes_at}
 use Rattle.elements.specs.declared.Element.{Element}
 use Rattle.elements.specs.Table.{table, below, position, number_of, numbered, thread_element}
@@ -20,7 +21,7 @@ use Rattle.elements.proofs.RegisterLaws.{is_register, register_element}
 use Rattle.gsb.specs.Message.{element_bytes, elements_bytes}
 use Rattle.gsb.proofs.Messages.{length_more, elements_none, elements_more}
 use Rattle.exits.specs.Exits.{exits, row_of, returned, element_of, weigh, bytes_column, valued}
-use Rattle.exits.specs.Private.{exit_at, codes}
+use Rattle.std.specs.Prelude.{Option, Some, None, MatchOption, unwrap_or}
 
 -- ---- what an element and a row must be
 abbrev id_fits : ℕ → Bool
@@ -61,11 +62,6 @@ fits_row ids e =
     let q = both (leb (weigh ids) 120) (leb (length ids) 10) p.1 in
     record { all = p.0; light = leb-true _ _ q.0; few = leb-true _ _ q.1 }
 
-row_fits_lem : (xs : List (ℕ × List ℕ)) (i : ℕ) → rows_fit xs ≡ true → i < length xs → row_fits (get_or xs i (0, [])).1 ≡ true
-row_fits_lem [] i e h = absurd (not-suc-le-zero h)
-row_fits_lem (x ∷ xs) zero e h = (both (row_fits x.1) (rows_fit xs) e).0
-row_fits_lem (x ∷ xs) (suc i) e h = row_fits_lem xs i (both (row_fits x.1) (rows_fit xs) e).1 (le_of_suc-le-suc h)
-
 -- so the elements of every exit, known or not, lie among a slot's values
 row_fit : (xs : List (ℕ × List ℕ)) (exit : ℕ) → rows_fit xs ≡ true → all_fit (row_of xs exit) ≡ true
 unfolding row_of
@@ -78,13 +74,6 @@ row_fit (x ∷ xs) exit e = go (eqb x.0 exit) (both (row_fits x.1) (rows_fit xs)
 
 pub returned_fit : (exit : ℕ) → all_fit (returned exit) ≡ true
 returned_fit exit = row_fit exits exit exits_fit
-
-long : length exits ≡ 7
-unfolding exits
-long = refl
-
-fits_at : (i : ℕ) → i < 7 → Fits (exit_at i).1
-fits_at i h = fits_row (exit_at i).1 (row_fits_lem exits i exits_fit (subst (λ (n : ℕ). i < n) (sym long) h))
 
 pub record Fit (id : ℕ) : Type 0 where
   pub listed : number_of id < 170
@@ -154,77 +143,40 @@ pub exit_bytes : bytes_column exits ≡ 124 ∷ 36 ∷ 16 ∷ 12 ∷ 16 ∷ 4 �
 unfolding exits weigh thread_element numbered number_of position below table
 exit_bytes = refl
 
--- ---- the loop
-module _ (i : ℕ) (h : i < 7) (row : List ℕ) (r : row ≡ codes (exit_at i)) where
-  abbrev ids : List ℕ
-  ids = (exit_at i).1
+-- ---- the loop, over the elements that an exit returns
+pub unwrapped : (o : Option (Bor (List ℕ))) (d r : Bor (List ℕ)) (k : Bool) (ids : List ℕ) → r ≡ unwrap_or o d → MatchOption o (k ≡ false) (λ r. (k ≡ true) × (r.now ≡ ids)) → k ≡ true → r.now ≡ ids
+unwrapped None d r k ids q m e = absurd (false≢true (sym m ∙ e))
+unwrapped (Some x) d r k ids q m e = ap (λ (r : Bor (List ℕ)). r.now) q ∙ m.1
 
-  pub row_many : get_or row 1 0 ≡ length ids
-  row_many = ap (λ (x : List ℕ). get_or x 1 0) r
+module _ (ids : List ℕ) (f : Fits ids) (j : ℕ) (h : j < length ids) where
+  the_fit : Fit (get_or ids j 0)
+  the_fit = fit_at ids j f.all h
 
-  pub row_few : get_or row 1 0 ≤ 10
-  row_few = omega (arith, row_many, (fits_at i h).few)
+  pub id_listed : number_of (get_or ids j 0) < 170
+  id_listed = the_fit.listed
 
-  row_id : (j : ℕ) → j < get_or row 1 0 → get_or row (2 + j) 0 ≡ get_or ids j 0
-  row_id j k =
-      let e : 2 + j ≡ suc (suc j) = omega arith in
-      ap (λ (n : ℕ). get_or row n 0) e ∙ ap (λ (x : List ℕ). get_or x (suc (suc j)) 0) r ∙ get_or-append ids (zeros (10 - length ids)) 0 j (omega (arith, row_many))
+  pub id_small : (element_of (get_or ids j 0)).size < 2 ^ 16
+  id_small = omega (arith, the_fit.small)
 
-  module _ (j many : ℕ) (n : many ≡ get_or row 1 0) (k : j < many) (id : ℕ) (q : id ≡ get_or row (2 + j) 0) where
-    the_id : id ≡ get_or ids j 0
-    the_id = q ∙ row_id j (omega (arith, n))
+  pub id_inside : (base slen : ℕ) → base + 1820 ≤ slen → base + (element_of (get_or ids j 0)).position + (element_of (get_or ids j 0)).size ≤ slen
+  id_inside base slen room = omega (arith, the_fit.inside)
 
-    below_many : j < length ids
-    below_many = omega (arith, n, row_many)
+  pub id_room : (at olen : ℕ) → at ≡ 4 + weigh (take j ids) → 124 ≤ olen → at + 4 + (element_of (get_or ids j 0)).size ≤ olen
+  id_room at olen e o = omega (arith, weigh_prefix ids j h, f.light)
 
-    the_fit : Fit id
-    the_fit = subst Fit (sym the_id) (fit_at ids j (fits_at i h).all below_many)
+  pub at_next : (at a : ℕ) → at ≡ 4 + weigh (take j ids) → a ≡ at + 4 + (element_of (get_or ids j 0)).size → a ≡ 4 + weigh (take (j + 1) ids)
+  at_next at a e w = omega (arith, w, e, weigh_next ids j h)
 
-    pub id_listed : number_of id < 170
-    id_listed = the_fit.listed
+  pub ids_next : (base : ℕ) (s b x y : List ℕ) (at : ℕ) → x ≡ put b 4 (elements_bytes (valued base s (take j ids))) → at ≡ 4 + weigh (take j ids)
+      → y ≡ put x at (element_bytes (get_or ids j 0) (value_in base s (get_or ids j 0))) → base + 1820 ≤ length s → y ≡ put b 4 (elements_bytes (valued base s (take (j + 1) ids)))
+  ids_next base s b x y at e a w room =
+      let z : at ≡ 4 + length (elements_bytes (valued base s (take j ids))) = omega (arith, a, weighed base s ids j room f.all (omega arith)) in
+      elements_more b 4 (valued base s (take j ids)) x y at (get_or ids j 0) (value_in base s (get_or ids j 0)) e z w
+      ∙ ap (λ (es : List (ℕ × List ℕ)). put b 4 (elements_bytes es)) (sym (valued_next base s ids j h))
 
-    pub id_small : (element_of id).size < 2 ^ 16
-    id_small = omega (arith, the_fit.small)
-
-    pub id_inside : (base slen : ℕ) → base + 1820 ≤ slen → base + (element_of id).position + (element_of id).size ≤ slen
-    id_inside base slen room = omega (arith, the_fit.inside)
-
-    pub id_room : (at olen m : ℕ) → at ≡ 4 + weigh (take j ids) → m ≡ olen → 124 ≤ olen → at + 4 + (element_of id).size ≤ m
-    id_room at olen m e w o =
-        let z : (element_of id).size ≡ (element_of (get_or ids j 0)).size = ap (λ (x : ℕ). (element_of x).size) the_id in
-        omega (arith, weigh_prefix ids j below_many, (fits_at i h).light, z)
-
-    at_next : (at a : ℕ) → at ≡ 4 + weigh (take j ids) → a ≡ at + 4 + (element_of id).size → a ≡ 4 + weigh (take (j + 1) ids)
-    at_next at a e w =
-        let z : (element_of id).size ≡ (element_of (get_or ids j 0)).size = ap (λ (x : ℕ). (element_of x).size) the_id in
-        omega (arith, w, e, z, weigh_next ids j below_many)
-
-    row_next : (base : ℕ) (s b x y : List ℕ) (at : ℕ) → x ≡ put b 4 (elements_bytes (valued base s (take j ids))) → at ≡ 4 + weigh (take j ids) → base + 1820 ≤ length s
-        → y ≡ put x at (element_bytes id (bytes_at s (base + (element_of id).position) (element_of id).size)) → y ≡ put b 4 (elements_bytes (valued base s (take (j + 1) ids)))
-    row_next base s b x y at e a room w =
-        let z : at ≡ 4 + length (elements_bytes (valued base s (take j ids))) = omega (arith, a, weighed base s ids j room (fits_at i h).all (omega (arith, below_many))) in
-        elements_more b 4 (valued base s (take j ids)) x y at (get_or ids j 0) (value_in base s (get_or ids j 0)) e z (w ∙ ap (λ (k : ℕ). put x at (element_bytes k (value_in base s k))) the_id)
-        ∙ ap (λ (es : List (ℕ × List ℕ)). put b 4 (elements_bytes es)) (sym (valued_next base s ids j below_many))
-
-  pub row_end : (base : ℕ) (s b x : List ℕ) (j many : ℕ) → x ≡ put b 4 (elements_bytes (valued base s (take j ids))) → many ≡ get_or row 1 0 → j ≤ many → many ≤ j → x ≡ put b 4 (elements_bytes (valued base s ids))
-  row_end base s b x j many e c p q =
-      let w : length ids ≤ j = omega (arith, row_many, c) in
-      e ∙ ap (λ (y : List ℕ). put b 4 (elements_bytes (valued base s y))) (take_all j ids w)
-
--- the turn, by what the call gave
-module _ (i j : ℕ) (h : i < 7) where
-  pub at_turn : (a at id : ℕ) → a ≡ at + 4 + (element_of id).size → at ≡ 4 + weigh (take j (exit_at i).1) → (row : List ℕ) → row ≡ codes (exit_at i) → (many : ℕ) → many ≡ get_or row 1 0 → j < many → id ≡ get_or row (2 + j) 0
-      → a ≡ 4 + weigh (take (j + 1) (exit_at i).1)
-  at_turn a at id w e row r many n k q = at_next i h row r j many n k id q at a e w
-
-  pub row_turn : (base : ℕ) (s b x y : List ℕ) (at id : ℕ) → y ≡ put x at (element_bytes id (bytes_at s (base + (element_of id).position) (element_of id).size))
-      → x ≡ put b 4 (elements_bytes (valued base s (take j (exit_at i).1))) → at ≡ 4 + weigh (take j (exit_at i).1) → base + 1820 ≤ length s
-      → (row : List ℕ) → row ≡ codes (exit_at i) → (many : ℕ) → many ≡ get_or row 1 0 → j < many → id ≡ get_or row (2 + j) 0 → y ≡ put b 4 (elements_bytes (valued base s (take (j + 1) (exit_at i).1)))
-  row_turn base s b x y at id w e a room row r many n k q = row_next i h row r j many n k id q base s b x y at e a room w
-
-pub row_start : (base : ℕ) (s b ids : List ℕ) → b ≡ put b 4 (elements_bytes (valued base s (take 0 ids)))
+pub ids_start : (base : ℕ) (s b ids : List ℕ) → b ≡ put b 4 (elements_bytes (valued base s (take 0 ids)))
 unfolding valued
-row_start base s b ids = elements_none b 4
+ids_start base s b ids = elements_none b 4
 
 pub at_start : (ids : List ℕ) → 4 ≡ 4 + weigh (take 0 ids)
 unfolding weigh
@@ -260,9 +212,9 @@ module _ (id n : ℕ) (x : Element) (e : n ≡ number_of id) (q : x ≡ thread_e
   thread_put base at s b y h = h ∙ ap (λ (z : Element). put b at (element_bytes id (bytes_at s (base + z.position) z.size))) thread_is
 
 -- ---- a register
-module _ (id : ℕ) (r : Register) (e : r ≡ register_of id) (n : r.size ≡ 0 → ⊥) where
+module _ (id : ℕ) (r : Register) (e : Some r ≡ register_of id) where
   register : record { id = id; size = r.size; position = r.position } ≡ element_of id
-  register = register_element id r (is_register id r e n)
+  register = register_element id r (is_register id r e)
 
   register_size : r.size ≡ (element_of id).size
   register_size = ap (λ (y : Element). y.size) register

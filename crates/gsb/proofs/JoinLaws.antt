@@ -1,5 +1,5 @@
 -- The laws of the operation, first in the form of the code's needs: nothing else opens `extent_of`, `settled` and `join_into`. Assumes nothing.
-use mathlib.Core.Path.{◌≡◌, refl, sym, ap, ap₂, ◌∙◌, subst}
+use mathlib.Core.Path.{◌≡◌, refl, sym, ap, ap₂, ◌∙◌}
 use mathlib.Core.Bool.{Bool, true, false, cond}
 use mathlib.Core.List.{List, [], ◌∷◌, ◌++◌}
 use Prim.Native.Nat.{ℕ, ◌+◌, ◌-◌, ◌*◌, ◌≤◌, ◌<◌}
@@ -10,72 +10,54 @@ use borrow.Author.Tests.{lt-ltb, le-ltb, ltb-false}
 use Rattle.octets.specs.Bytes.{bytes_at, put, digits}
 use Rattle.octets.proofs.Bytes.{put_append}
 use Rattle.octets.proofs.Numbers.{length_digits}
-use Rattle.answer.specs.declared.Bad.{Bad}
-use Rattle.answer.specs.declared.Bad.TheVariants.{Size}
-use Rattle.answer.specs.declared.Place.{Place}
 use Rattle.answer.specs.declared.Answer.{Answer}
 use Rattle.answer.specs.declared.RunBuffer.TheVariants.{Output}
 use Rattle.answer.specs.declared.Fault.TheVariants.{None, Length, Element, Short}
 use Rattle.answer.specs.Refusals.{first_of}
-use Rattle.gsb.specs.declared.Verdict.{Verdict}
-use Rattle.gsb.specs.declared.Verdict.TheVariants.{Faulty}
-use Rattle.gsb.specs.declared.Walked.{Walked}
-use Rattle.gsb.specs.declared.Walked.TheVariants.{Done, Stopped}
-use Rattle.gsb.specs.declared.joining.Extent.{Extent}
-use Rattle.gsb.specs.declared.joining.Extent.TheVariants.{Ends, Cut}
-use Rattle.gsb.specs.Walk.{count_of, offset_at, bad_length, walk, is_stopped, fault_of}
+use Rattle.gsb.specs.declared.BadElement.{BadElement}
+use Rattle.gsb.specs.Walk.{count_of, offset_at, bad_length, walk, is_stopped, fault_of, Verdict, Walked}
 use Rattle.gsb.specs.Lookup.{framed}
 use Rattle.gsb.specs.Join.{end_of, counted, joined, cut_of, Joining, unjoined, join_into, Joinable, CanJoin}
-use Rattle.gsb.specs.Private.{extent_is, extent_of, Room, Measured, settled}
-use Rattle.gsb.proofs.Walks.{walk_end, walk_bad, offset_low, length_bounds}
-use Rattle.gsb.proofs.First.{refused_exactly}
-use Rattle.gsb.proofs.LookupLaws.{framed_bad, framed_leads}
+use Rattle.gsb.specs.Private.{placed, extent_is, extent_of, Measured, settled}
+use Rattle.gsb.proofs.Walks.{walk_end, walk_stop, offset_low, length_bounds}
 use Rattle.gsb.proofs.Joined.{counted_is, joined_is, length_counted, length_joined}
+use Rattle.std.proofs.Common.{Ok, Err}
 
 -- ---- `end_of`
 module _ (b : List ℕ) (count i at : ℕ) (n : count ≡ count_of b) (w : walk (framed b) count 0 4 ≡ walk (framed b) (count - i) i at) where
   whole_walk : cut_of b ≡ walk (framed b) (count - i) i at
   whole_walk = ap (λ (c : ℕ). walk (framed b) c 0 4) (sym n) ∙ w
 
-  pub extent_cut : (v : Verdict) (bad : Bad) → i < count → v ≡ framed b at → v ≡ Faulty bad → Cut (record { index = i; offset = at }) ≡ extent_of b
+  pub extent_cut : (v : Verdict) (stop : BadElement) → i < count → v ≡ framed b at → Err stop ≡ placed v i at → Err stop ≡ extent_of b
   unfolding extent_of extent_is
-  extent_cut v bad h j g = sym (ap (λ (x : Walked). extent_is x (end_of b)) (whole_walk ∙ walk_bad (framed b) count i at bad h (sym j ∙ g)))
+  extent_cut v stop h j g = sym (ap (λ (x : Walked). extent_is x (end_of b)) (whole_walk ∙ walk_stop (framed b) count i at v stop h j g))
 
-  pub extent_end : i ≤ count → count ≤ i → at ≡ offset_at b i → Ends at ≡ extent_of b
+  pub extent_end : i ≤ count → count ≤ i → at ≡ offset_at b i → Ok at ≡ extent_of b
   unfolding extent_of extent_is
   extent_end h k o =
       let q : i ≡ count_of b = omega arith in
-      ap Ends (o ∙ ap (offset_at b) q) ∙ sym (ap (λ (x : Walked). extent_is x (end_of b)) (whole_walk ∙ walk_end (framed b) count i at k))
+      ap (λ (x : ℕ). Ok x) (o ∙ ap (offset_at b) q) ∙ sym (ap (λ (x : Walked). extent_is x (end_of b)) (whole_walk ∙ walk_end (framed b) count i at k))
 
 -- ---- what it tells
-no_end : (p : Place) (m : ℕ) → Cut p ≡ Ends m → ⊥
-no_end p m e = let z : ◌≡◌ {A = ℕ} 0 1 = cc in omega arith
-
--- a cut element is always a bad size
-stop_size : (b : List ℕ) (bad : Bad) (p : Place) → cut_of b ≡ Stopped bad p → bad ≡ Size
-stop_size b bad p e = framed_bad b (offset_at b p.index) bad ((refused_exactly (framed b) b (framed_leads b) bad p).0 e).0.faulty
-
-module _ (b : List ℕ) (e : Extent) (x : e ≡ extent_of b) where
-  told_end : (m : ℕ) → e ≡ Ends m → (cut_of b ≡ Done) × (m ≡ end_of b)
+module _ (b : List ℕ) where
+  told_end : (m : ℕ) → Ok m ≡ extent_of b → (cut_of b ≡ Ok tt) × (m ≡ end_of b)
   unfolding extent_of extent_is
-  told_end m h = go (cut_of b) (sym x ∙ h)
+  told_end m h = go (cut_of b) h
     where
-      go : (w : Walked) → extent_is w (end_of b) ≡ Ends m → (w ≡ Done) × (m ≡ end_of b)
-      go Done q = (refl, cc q)
-      go (Stopped bad p) q = absurd (no_end p m q)
+      go : (w : Walked) → Ok m ≡ extent_is w (end_of b) → (w ≡ Ok tt) × (m ≡ end_of b)
+      go (Ok _) q = (refl, cc q)
+      go (Err stop) q = absurd (cc q)
 
-  told_cut : (p : Place) → e ≡ Cut p → cut_of b ≡ Stopped Size p
+  told_cut : (stop : BadElement) → Err stop ≡ extent_of b → cut_of b ≡ Err stop
   unfolding extent_of extent_is
-  told_cut p h = go (cut_of b) refl (sym x ∙ h)
+  told_cut stop h = go (cut_of b) h
     where
-      go : (w : Walked) → cut_of b ≡ w → extent_is w (end_of b) ≡ Cut p → w ≡ Stopped Size p
-      go Done f q = absurd (no_end p (end_of b) (sym q))
-      go (Stopped bad r) f q = let z : r ≡ p = cc q in ap₂ Stopped (stop_size b bad r f) z
+      go : (w : Walked) → Err stop ≡ extent_is w (end_of b) → w ≡ Err stop
+      go (Ok _) q = absurd (cc q)
+      go (Err s) q = let z : s ≡ stop = cc q in ap (λ (x : BadElement). Err x) z
 
-pub measured : (b : List ℕ) (e : Extent) (m : ℕ) (t : Bool) → t ≡ bad_length b → t ≡ false → (e ≡ extent_of b) × Room e b → e ≡ Ends m → Measured b m
-measured b e m t q f x h =
-    let r : (4 + 4 * count_of b ≤ m) × (m ≤ length b) = subst (λ (y : Extent). Room y b) h x.1 in
-    record { end = (told_end b e x.0 m h).1; headers = r.0; inside = r.1; short = (length_bounds b (sym q ∙ f)).1 }
+pub measured : (b : List ℕ) (m : ℕ) (t : Bool) → t ≡ bad_length b → t ≡ false → (Ok m ≡ extent_of b) × ((4 + 4 * count_of b ≤ m) × (m ≤ length b)) → Measured b m
+measured b m t q f x = record { end = (told_end b m x.0).1; headers = x.1.0; inside = x.1.1; short = (length_bounds b (sym q ∙ f)).1 }
 
 -- ---- `join_at`
 abbrev left : Answer → List ℕ → Joining
@@ -85,27 +67,27 @@ module _ (a b r : List ℕ) (m n : ℕ) (ma : Measured a m) (mb : Measured b n) 
   size : length (joined a b) ≡ m + n - 4
   size = length_joined a b (omega arith) (omega arith) ∙ ap₂ (λ (x y : ℕ). x + y - 4) (sym ma.end) (sym mb.end)
 
-  pub at_long : (x : Answer) → 65536 < m + n - 4 → x ≡ record { fault = Length; value = 0 } → left x r ≡ settled (joined a b) r
+  pub at_long : 65536 < m + n - 4 → left (record { fault = Length; value = 0 }) r ≡ settled (joined a b) r
   unfolding settled
-  at_long x h e =
+  at_long h =
       let l : 65536 < length (joined a b) = omega (arith, size) in
-      simp (lt-ltb _ _ l) (ap (λ (y : Answer). left y r) e)
+      simp (lt-ltb _ _ l)
 
-  module _ (x : Answer) (h : m + n - 4 ≤ 65536) where
-    pub at_short : length r < m + n - 4 → x ≡ record { fault = Short Output; value = 0 } → left x r ≡ settled (joined a b) r
+  module _ (h : m + n - 4 ≤ 65536) where
+    pub at_short : length r < m + n - 4 → left (record { fault = Short Output; value = 0 }) r ≡ settled (joined a b) r
     unfolding settled
-    at_short k e =
+    at_short k =
         let l : length (joined a b) ≤ 65536 = omega (arith, size) in
         let s : length r < length (joined a b) = omega (arith, size) in
-        simp (le-ltb _ _ l, lt-ltb _ _ s) (ap (λ (y : Answer). left y r) e)
+        simp (le-ltb _ _ l, lt-ltb _ _ s)
 
     pub at_written : (i j : ℕ) (u v w : List ℕ) → m + n - 4 ≤ length r → i ≡ count_of a → j ≡ count_of b → u ≡ put r 0 (digits 4 (i + j))
-        → v ≡ put u 4 (bytes_at a 4 (m - 4)) → w ≡ put v m (bytes_at b 4 (n - 4)) → x ≡ record { fault = None; value = m + n - 4 } → left x w ≡ settled (joined a b) r
+        → v ≡ put u 4 (bytes_at a 4 (m - 4)) → w ≡ put v m (bytes_at b 4 (n - 4)) → left (record { fault = None; value = m + n - 4 }) w ≡ settled (joined a b) r
     unfolding settled
-    at_written i j u v w k ei ej eu ev ew e =
+    at_written i j u v w k ei ej eu ev ew =
         let l : length (joined a b) ≤ 65536 = omega (arith, size) in
         let s : length (joined a b) ≤ length r = omega (arith, size) in
-        simp (le-ltb _ _ l, le-ltb _ _ s) (ap₂ left (e ∙ ap (λ (y : ℕ). record { fault = None; value = y }) (sym size)) written)
+        simp (le-ltb _ _ l, le-ltb _ _ s) (ap₂ left (ap (λ (y : ℕ). record { fault = None; value = y }) (sym size)) written)
       where
         first : 0 + length (digits 4 (count_of a + count_of b)) ≡ 4
         first = omega (arith, length_digits 4 (count_of a + count_of b))
@@ -133,36 +115,36 @@ unfolding join_into settled
 past_lengths a b r p q = simp (p, q)
 
 module _ (a b r : List ℕ) (s : Bool) (es : s ≡ bad_length a) where
-  pub first_length : (x : Answer) → s ≡ true → x ≡ record { fault = Length; value = 0 } → left x r ≡ join_into a b r
+  pub first_length : s ≡ true → left (record { fault = Length; value = 0 }) r ≡ join_into a b r
   unfolding join_into
-  first_length x h e =
+  first_length h =
       let p : bad_length a ≡ true = sym es ∙ h in
-      simp p (ap (λ (y : Answer). left y r) e)
+      simp p
 
   module _ (hs : s ≡ false) (t : Bool) (et : t ≡ bad_length b) where
-    pub second_length : (x : Answer) → t ≡ true → x ≡ record { fault = Length; value = 0 } → left x r ≡ join_into a b r
+    pub second_length : t ≡ true → left (record { fault = Length; value = 0 }) r ≡ join_into a b r
     unfolding join_into
-    second_length x h e =
+    second_length h =
         let p : bad_length a ≡ false = sym es ∙ hs in
         let q : bad_length b ≡ true = sym et ∙ h in
-        simp (p, q) (ap (λ (y : Answer). left y r) e)
+        simp (p, q)
 
-    module _ (ht : t ≡ false) (f : Extent) (ef : (f ≡ extent_of a) × Room f a) where
+    module _ (ht : t ≡ false) where
       shape : join_into a b r ≡ unless r (cut_of a) (unless r (cut_of b) (settled (joined a b) r))
       shape = past_lengths a b r (sym es ∙ hs) (sym et ∙ ht)
 
-      pub first_cut : (x : Answer) (p : Place) → f ≡ Cut p → x ≡ record { fault = Element Size p; value = 0 } → left x r ≡ join_into a b r
-      first_cut x p h e = ap (λ (y : Answer). left y r) e ∙ sym (shape ∙ ap (λ (w : Walked). unless r w (unless r (cut_of b) (settled (joined a b) r))) (told_cut a f ef.0 p h))
+      pub first_cut : (stop : BadElement) → Err stop ≡ extent_of a → left (record { fault = Element stop.bad stop.place; value = 0 }) r ≡ join_into a b r
+      first_cut stop h = sym (shape ∙ ap (λ (w : Walked). unless r w (unless r (cut_of b) (settled (joined a b) r))) (told_cut a stop h))
 
-      module _ (m : ℕ) (hm : f ≡ Ends m) (g : Extent) (eg : (g ≡ extent_of b) × Room g b) where
+      module _ (m : ℕ) (hm : Ok m ≡ extent_of a) where
         past_first : join_into a b r ≡ unless r (cut_of b) (settled (joined a b) r)
-        past_first = shape ∙ ap (λ (w : Walked). unless r w (unless r (cut_of b) (settled (joined a b) r))) (told_end a f ef.0 m hm).0
+        past_first = shape ∙ ap (λ (w : Walked). unless r w (unless r (cut_of b) (settled (joined a b) r))) (told_end a m hm).0
 
-        pub second_cut : (x : Answer) (p : Place) → g ≡ Cut p → x ≡ record { fault = Element Size p; value = 0 } → left x r ≡ join_into a b r
-        second_cut x p h e = ap (λ (y : Answer). left y r) e ∙ sym (past_first ∙ ap (λ (w : Walked). unless r w (settled (joined a b) r)) (told_cut b g eg.0 p h))
+        pub second_cut : (stop : BadElement) → Err stop ≡ extent_of b → left (record { fault = Element stop.bad stop.place; value = 0 }) r ≡ join_into a b r
+        second_cut stop h = sym (past_first ∙ ap (λ (w : Walked). unless r w (settled (joined a b) r)) (told_cut b stop h))
 
-        pub both_ends : (n : ℕ) (j : Joining) → g ≡ Ends n → j ≡ settled (joined a b) r → j ≡ join_into a b r
-        both_ends n j h e = e ∙ sym (past_first ∙ ap (λ (w : Walked). unless r w (settled (joined a b) r)) (told_end b g eg.0 n h).0)
+        pub both_ends : (n : ℕ) (j : Joining) → Ok n ≡ extent_of b → j ≡ settled (joined a b) r → j ≡ join_into a b r
+        both_ends n j h e = e ∙ sym (past_first ∙ ap (λ (w : Walked). unless r w (settled (joined a b) r)) (told_end b n h).0)
 
 -- ---- what is accepted
 module _ (a b r : List ℕ) where
@@ -186,11 +168,11 @@ module _ (a b r : List ℕ) where
           (left (record { fault = None; value = length (joined a b) }) (put r 0 (joined a b)))).answer.fault ≡ None → CanJoin a b r
       go true t v w x y p q f g h k e = let z : ◌≡◌ {A = ℕ} 0 1 = cc in absurd (omega arith)
       go false true v w x y p q f g h k e = let z : ◌≡◌ {A = ℕ} 0 1 = cc in absurd (omega arith)
-      go false false (Stopped bad place) w x y p q f g h k e = let z : ◌≡◌ {A = ℕ} 0 1 = cc in absurd (omega arith)
-      go false false Done (Stopped bad place) x y p q f g h k e = let z : ◌≡◌ {A = ℕ} 0 1 = cc in absurd (omega arith)
-      go false false Done Done true y p q f g h k e = let z : ◌≡◌ {A = ℕ} 0 1 = cc in absurd (omega arith)
-      go false false Done Done false true p q f g h k e = let z : ◌≡◌ {A = ℕ} 0 1 = cc in absurd (omega arith)
-      go false false Done Done false false p q f g h k e = record {
+      go false false (Err stop) w x y p q f g h k e = let z : ◌≡◌ {A = ℕ} 0 1 = cc in absurd (omega arith)
+      go false false (Ok _) (Err stop) x y p q f g h k e = let z : ◌≡◌ {A = ℕ} 0 1 = cc in absurd (omega arith)
+      go false false (Ok _) (Ok _) true y p q f g h k e = let z : ◌≡◌ {A = ℕ} 0 1 = cc in absurd (omega arith)
+      go false false (Ok _) (Ok _) false true p q f g h k e = let z : ◌≡◌ {A = ℕ} 0 1 = cc in absurd (omega arith)
+      go false false (Ok _) (Ok _) false false p q f g h k e = record {
         first = record { sized = p; uncut = f };
         second = record { sized = q; uncut = g };
         short = ltb-false _ _ h;

@@ -8,8 +8,6 @@ use native.Mathlib.Omega.{arith}
 use lib.ListN.{length}
 use Rattle.octets.specs.Bytes.{bytes_at}
 use Rattle.rules.specs.declared.Context.{Context}
-use Rattle.gsb.specs.declared.Verdict.TheVariants.{Good}
-use Rattle.gsb.specs.declared.Walked.TheVariants.{Done}
 use Rattle.gsb.specs.Walk.{count_of, next_at, offset_at, judged, first_bad}
 use Rattle.gsb.specs.Join.{end_of, joined}
 use Rattle.gsb.proofs.Judged.{good_there}
@@ -18,13 +16,14 @@ use Rattle.gsb.proofs.First.{all_good, element_good_lem}
 use Rattle.gsb.proofs.Shifted.{shift_id, shift_size, shift_value}
 use Rattle.gsb.proofs.Whole.{Whole}
 use Rattle.gsb.proofs.Joined.{length_joined, count_joined, first_part, second_part, start_b, end_joined}
+use Rattle.std.proofs.Common.{Ok}
 
 -- element i of a buffer j is good
 abbrev GoodIn : Context → List ℕ → ℕ → Type 0
-GoodIn k j i = judged k j (offset_at j i) ≡ Good (next_at j (offset_at j i))
+GoodIn k j i = judged k j (offset_at j i) ≡ Ok (next_at j (offset_at j i))
 
 -- those of a good buffer are good where they stand in another, from element c on
-module _ (k : Context) (j b : List ℕ) (d : ℕ) (same : bytes_at j (4 + d) (end_of b - 4) ≡ bytes_at b 4 (end_of b - 4)) (c : ℕ) (start : offset_at j c ≡ 4 + d) (good : first_bad k b ≡ Done) where
+module _ (k : Context) (j b : List ℕ) (d : ℕ) (same : bytes_at j (4 + d) (end_of b - 4) ≡ bytes_at b 4 (end_of b - 4)) (c : ℕ) (start : offset_at j c ≡ 4 + d) (good : first_bad k b ≡ Ok tt) where
   good_shifted : (i : ℕ) → i < count_of b → next_at j (offset_at j (c + i)) ≤ length j → GoodIn k j (c + i)
   good_shifted i l h =
       good_there k j (offset_at j (c + i)) b (offset_at b i) (element_good_lem k b good i l)
@@ -32,7 +31,7 @@ module _ (k : Context) (j b : List ℕ) (d : ℕ) (same : bytes_at j (4 + d) (en
       (shift_size j b d (end_of b - 4) same c (count_of b) start (omega arith) i l)
       (shift_value j b d (end_of b - 4) same c (count_of b) start (omega arith) i l) h
 
-module _ (k : Context) (a b : List ℕ) (wa : Whole a) (wb : Whole b) (ga : first_bad k a ≡ Done) (gb : first_bad k b ≡ Done) where
+module _ (k : Context) (a b : List ℕ) (wa : Whole a) (wb : Whole b) (ga : first_bad k a ≡ Ok tt) (gb : first_bad k b ≡ Ok tt) where
   -- every element of the joined buffer lies inside
   inside : (i : ℕ) → i < count_of (joined a b) → next_at (joined a b) (offset_at (joined a b) i) ≤ length (joined a b)
   inside i h =
@@ -49,7 +48,7 @@ module _ (k : Context) (a b : List ℕ) (wa : Whole a) (wb : Whole b) (ga : firs
       (good_shifted k (joined a b) b (end_of a - 4) (second_part a b wa wb) (count_of a) (start_b a b wa wb) gb (i - count_of a)
       (omega (arith, count_joined a b wa wb)) (inside (count_of a + (i - count_of a)) (omega arith)))
 
-  pub good_joined : first_bad k (joined a b) ≡ Done
+  pub good_joined : first_bad k (joined a b) ≡ Ok tt
   good_joined =
       (all_good k (joined a b)).1
-      (λ i h. either i h (dec_lt i (count_of a)) ∙ ap Good (sym (offset_suc (joined a b) i) ∙ ap (offset_at (joined a b)) (sym (add-one i))))
+      (λ i h. either i h (dec_lt i (count_of a)) ∙ ap Ok (sym (offset_suc (joined a b) i) ∙ ap (offset_at (joined a b)) (sym (add-one i))))

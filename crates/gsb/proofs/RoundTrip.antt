@@ -24,14 +24,13 @@ use Rattle.elements.specs.Table.{table, kind_of}
 use Rattle.rules.specs.Rules.{permits, size_fits, good_value}
 use Rattle.elements.proofs.Table.{listed_rule, size_bound}
 use Rattle.rules.proofs.Rules.{value_run}
-use Rattle.gsb.specs.declared.Verdict.TheVariants.{Good, Faulty}
-use Rattle.gsb.specs.declared.Walked.TheVariants.{Done, Stopped}
-use Rattle.gsb.specs.Walk.{count_of, id_at, size_at, next_at, offset_at, bad_length, judged, first_bad}
+use Rattle.gsb.specs.Walk.{count_of, id_at, size_at, next_at, offset_at, bad_length, judged, first_bad, stopped_at}
 use Rattle.gsb.specs.Message.{element_bytes, elements_bytes, message, Stands, Begins, nth_id, nth_value, Wire, first_place}
 use Rattle.gsb.proofs.Judged.{judged_id, judged_size, judged_value, judged_good}
 use Rattle.gsb.proofs.Walks.{walk_end, walk_good, walk_bad, offset_start, offset_next, first_start}
 use Rattle.gsb.proofs.First.{all_good}
 use Rattle.gsb.proofs.Messages.{length_element, element_parts, elements_nil, elements_parts, elements_append, message_parts, length_more, length_message}
+use Rattle.std.proofs.Common.{Ok, Err}
 
 -- ---- bytes that stand in a buffer
 
@@ -198,25 +197,25 @@ module _ (es : List (ℕ × List ℕ)) (b : List ℕ) (w : Wire es) (s : Begins 
   -- ---- judged
   module _ (k : Context) (permitted : (i : ℕ) → i < length es → permits k (nth_id es i) (kind_of (nth_id es i)) ≡ true)
       (sized : (i : ℕ) → i < length es → size_fits (kind_of (nth_id es i)) (length (nth_value es i)) ≡ true) where
-    pub message_good : ((i : ℕ) → i < length es → good_value k (nth_id es i) b (offset_at b i + 4) ≡ true) → first_bad k b ≡ Done
+    pub message_good : ((i : ℕ) → i < length es → good_value k (nth_id es i) b (offset_at b i + 4) ≡ true) → first_bad k b ≡ Ok tt
     message_good ruled = (all_good k b).1 good
       where
-        good : (i : ℕ) → i < count_of b → judged k b (offset_at b i) ≡ Good (offset_at b (i + 1))
+        good : (i : ℕ) → i < count_of b → judged k b (offset_at b i) ≡ Ok (offset_at b (i + 1))
         good i c =
             let h : i < length es = omega (arith, c, message_count) in
             let e : offset_at b i + 4 + length (nth_value es i) ≤ length b = omega (arith, message_inside i h, message_size i h) in
             let n : offset_at b i + 4 + length (nth_value es i) ≡ offset_at b (i + 1) = ap (λ (x : ℕ). offset_at b i + 4 + x) (sym (message_size i h)) ∙ offset_next b i (offset_at b i) refl in
             sym (judged_good k b (offset_at b i) (nth_id es i) (length (nth_value es i)) (kind_of (nth_id es i)) (omega arith) (sym (message_id i h)) (sym (message_size i h)) refl
             true (sym (permitted i h)) refl true (sym (sized i h)) refl (omega arith) true (sym (ruled i h)) refl)
-            ∙ ap Good n
+            ∙ ap Ok n
 
     -- no value of a run input is bad
-    pub input_good_lem : k.usage ≡ RunInput → first_bad k b ≡ Done
+    pub input_good_lem : k.usage ≡ RunInput → first_bad k b ≡ Ok tt
     input_good_lem u = message_good (λ i h. value_run k (nth_id es i) b (offset_at b i + 4) u (permitted i h))
 
 -- ---- no elements
 
-none_good : (k : Context) (b : List ℕ) → count_of b ≡ 0 → first_bad k b ≡ Done
+none_good : (k : Context) (b : List ℕ) → count_of b ≡ 0 → first_bad k b ≡ Ok tt
 none_good k b c = first_start k b 0 (sym c) ∙ walk_end (judged k b) 0 0 4 (omega arith)
 
 digits_none : digits 4 0 ≡ zeros 4
@@ -228,13 +227,13 @@ module _ (b : List ℕ) (z : bytes_at b 0 4 ≡ zeros 4) where
   pub zero_count : count_of b ≡ 0
   zero_count = sym (be_part b 0 4 0 4 (omega arith)) ∙ ap (λ (x : List ℕ). be x 0 4) (z ∙ sym digits_none) ∙ be_of_digits 4 0
 
-  pub message_zero : (k : Context) → (count_of b ≡ 0) × (first_bad k b ≡ Done)
+  pub message_zero : (k : Context) → (count_of b ≡ 0) × (first_bad k b ≡ Ok tt)
   message_zero k = (zero_count, none_good k b zero_count)
 
 pub zeros_count : (n : ℕ) → 4 ≤ n → count_of (zeros n) ≡ 0
 zeros_count n h = zero_count (zeros n) (zeros_part n 0 4 (omega arith))
 
-pub zeros_good : (k : Context) (n : ℕ) → 4 ≤ n → first_bad k (zeros n) ≡ Done
+pub zeros_good : (k : Context) (n : ℕ) → 4 ≤ n → first_bad k (zeros n) ≡ Ok tt
 zeros_good k n h = (message_zero (zeros n) (zeros_part n 0 4 (omega arith)) k).1
 
 -- ---- one element
@@ -278,19 +277,19 @@ module _ (k : Context) (b : List ℕ) (id : ℕ) (v : List ℕ) (h : id < 2 ^ 16
   one_count : count_of b ≡ 1
   one_count = message_count ((id, v) ∷ []) b (wire_one id v h l) s
 
-  one_faulty : (bad : Bad) → Faulty bad ≡ judged k b 4 → first_bad k b ≡ Stopped bad first_place
+  one_faulty : (bad : Bad) → Err bad ≡ judged k b 4 → first_bad k b ≡ stopped_at bad first_place
   one_faulty bad e = first_start k b 1 (sym one_count) ∙ walk_bad (judged k b) 1 0 4 bad (omega arith) (sym e)
 
-  one_good : (next : ℕ) → Good next ≡ judged k b 4 → first_bad k b ≡ Done
+  one_good : (next : ℕ) → Ok next ≡ judged k b 4 → first_bad k b ≡ Ok tt
   one_good next e =
       first_start k b 1 (sym one_count) ∙ walk_good (judged k b) 1 0 4 next (omega arith) (sym e)
       ∙ walk_end (judged k b) 1 (0 + 1) next (omega arith)
 
   -- the buffer may be longer than the message
   pub one_judged : first_bad k b
-      ≡ cond (not (permits k id (kind_of id))) (Stopped Id first_place)
-      (cond (not (size_fits (kind_of id) (length v))) (Stopped Size first_place)
-      (cond (not (good_value k id b 8)) (Stopped Value first_place) Done))
+      ≡ cond (not (permits k id (kind_of id))) (stopped_at Id first_place)
+      (cond (not (size_fits (kind_of id) (length v))) (stopped_at Size first_place)
+      (cond (not (good_value k id b 8)) (stopped_at Value first_place) (Ok tt)))
   one_judged = go (permits k id (kind_of id)) (size_fits (kind_of id) (length v)) (good_value k id b 8) refl refl refl
     where
       wire : Wire ((id, v) ∷ [])
@@ -309,7 +308,7 @@ module _ (k : Context) (b : List ℕ) (id : ℕ) (v : List ℕ) (h : id < 2 ^ 16
       room = omega (arith, s.within, one_length id v)
 
       go : (p q r : Bool) → p ≡ permits k id (kind_of id) → q ≡ size_fits (kind_of id) (length v) → r ≡ good_value k id b 8
-          → first_bad k b ≡ cond (not p) (Stopped Id first_place) (cond (not q) (Stopped Size first_place) (cond (not r) (Stopped Value first_place) Done))
+          → first_bad k b ≡ cond (not p) (stopped_at Id first_place) (cond (not q) (stopped_at Size first_place) (cond (not r) (stopped_at Value first_place) (Ok tt)))
       go false q r e f g = one_faulty Id (judged_id k b 4 id (length v) (kind_of id) (omega (arith, room)) the_id the_size refl false e refl)
       go true false r e f g = one_faulty Size (judged_size k b 4 id (length v) (kind_of id) (omega (arith, room)) the_id the_size refl true e refl false f refl)
       go true true false e f g = one_faulty Value (judged_value k b 4 id (length v) (kind_of id) (omega (arith, room)) the_id the_size refl true e refl true f refl (omega (arith, room)) false g refl)
@@ -318,7 +317,7 @@ module _ (k : Context) (b : List ℕ) (id : ℕ) (v : List ℕ) (h : id < 2 ^ 16
 -- the message itself
 pub one_element : (k : Context) (id : ℕ) (v : List ℕ) → id < 2 ^ 16 → length v < 2 ^ 16
     → first_bad k (message ((id, v) ∷ []))
-    ≡ cond (not (permits k id (kind_of id))) (Stopped Id first_place)
-    (cond (not (size_fits (kind_of id) (length v))) (Stopped Size first_place)
-    (cond (not (good_value k id (message ((id, v) ∷ [])) 8)) (Stopped Value first_place) Done))
+    ≡ cond (not (permits k id (kind_of id))) (stopped_at Id first_place)
+    (cond (not (size_fits (kind_of id) (length v))) (stopped_at Size first_place)
+    (cond (not (good_value k id (message ((id, v) ∷ [])) 8)) (stopped_at Value first_place) (Ok tt)))
 one_element k id v h l = one_judged k (message ((id, v) ∷ [])) id v h l (begins_self (message ((id, v) ∷ [])))

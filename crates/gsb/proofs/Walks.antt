@@ -11,15 +11,14 @@ use lib.ListN.{length}
 use borrow.Author.Tests.{le-ltb, ltb-false}
 use Rattle.answer.specs.declared.Bad.{Bad}
 use Rattle.rules.specs.declared.Context.{Context}
-use Rattle.gsb.specs.declared.Verdict.{Verdict}
-use Rattle.gsb.specs.declared.Verdict.TheVariants.{Good, Faulty}
-use Rattle.gsb.specs.declared.Walked.{Walked}
-use Rattle.gsb.specs.declared.Walked.TheVariants.{Done, Stopped}
-use Rattle.gsb.specs.Walk.{count_of, next_at, offset_at, bad_length, judged, walk_on, walk, first_bad}
+use Rattle.gsb.specs.declared.BadElement.{BadElement}
+use Rattle.gsb.specs.Walk.{count_of, next_at, offset_at, bad_length, judged, walk_on, walk, first_bad, Verdict, Walked, stopped_at}
+use Rattle.gsb.specs.Private.{placed}
+use Rattle.std.proofs.Common.{Ok, Err}
 
 -- the walk as a loop that counts i up to count has it
 module _ (judge : ℕ → Verdict) (count i at : ℕ) where
-  pub walk_end : count ≤ i → walk judge (count - i) i at ≡ Done
+  pub walk_end : count ≤ i → walk judge (count - i) i at ≡ Ok tt
   unfolding walk
   walk_end h =
       let e : count - i ≡ 0 = omega arith in
@@ -31,32 +30,44 @@ module _ (judge : ℕ → Verdict) (count i at : ℕ) where
       let e : count - i ≡ suc (count - (i + 1)) = omega arith in
       ap (λ (n : ℕ). walk judge n i at) e
 
-  pub walk_good : (next : ℕ) → i < count → judge at ≡ Good next → walk judge (count - i) i at ≡ walk judge (count - (i + 1)) (i + 1) next
+  pub walk_good : (next : ℕ) → i < count → judge at ≡ Ok next → walk judge (count - i) i at ≡ walk judge (count - (i + 1)) (i + 1) next
   unfolding walk_on
   walk_good next h e = turn h ∙ ap (λ (v : Verdict). walk_on v i at (λ next. walk judge (count - (i + 1)) (i + 1) next)) e
 
-  pub walk_bad : (bad : Bad) → i < count → judge at ≡ Faulty bad → walk judge (count - i) i at ≡ Stopped bad (record { index = i; offset = at })
+  pub walk_bad : (bad : Bad) → i < count → judge at ≡ Err bad → walk judge (count - i) i at ≡ stopped_at bad (record { index = i; offset = at })
   unfolding walk_on
   walk_bad bad h e = turn h ∙ ap (λ (v : Verdict). walk_on v i at (λ next. walk judge (count - (i + 1)) (i + 1) next)) e
 
-pub after_bad : (bad : Bad) (i at : ℕ) (go : ℕ → Walked) → walk_on (Faulty bad) i at go ≡ Stopped bad (record { index = i; offset = at })
+pub after_bad : (bad : Bad) (i at : ℕ) (go : ℕ → Walked) → walk_on (Err bad) i at go ≡ stopped_at bad (record { index = i; offset = at })
 unfolding walk_on
 after_bad bad i at go = refl
 
-pub after_good : (next i at : ℕ) (go : ℕ → Walked) → walk_on (Good next) i at go ≡ go next
+pub after_good : (next i at : ℕ) (go : ℕ → Walked) → walk_on (Ok next) i at go ≡ go next
 unfolding walk_on
 after_good next i at go = refl
 
+-- ---- a verdict that is left by `?`, with its place
+pub placed_ok : (v : Verdict) (i at next : ℕ) → Ok next ≡ placed v i at → v ≡ Ok next
+placed_ok (Ok n) i at next e = let z : n ≡ next = cc in ap (λ (x : ℕ). Ok x) z
+placed_ok (Err bad) i at next e = absurd (cc)
+
+placed_err : (v : Verdict) (i at : ℕ) (stop : BadElement) → Err stop ≡ placed v i at → (v ≡ Err stop.bad) × (stop ≡ record { bad = stop.bad; place = record { index = i; offset = at } })
+placed_err (Ok n) i at stop e = absurd (cc)
+placed_err (Err bad) i at stop e =
+    let z : stop ≡ record { bad = bad; place = record { index = i; offset = at } } = cc in
+    let y : bad ≡ stop.bad = sym (ap (λ (x : BadElement). x.bad) z) in
+    (ap (λ (x : Bad). Err x) y, z ∙ ap (λ (x : Bad). record { bad = x; place = record { index = i; offset = at } }) y)
+
 -- ---- the same in the form of a loop's needs
 module _ (judge : ℕ → Verdict) (count i at : ℕ) (w : Walked) where
-  pub turn_good : (v : Verdict) (next : ℕ) → w ≡ walk judge (count - i) i at → i < count → v ≡ judge at → v ≡ Good next → w ≡ walk judge (count - (i + 1)) (i + 1) next
+  pub turn_good : (v : Verdict) (next : ℕ) → w ≡ walk judge (count - i) i at → i < count → v ≡ judge at → v ≡ Ok next → w ≡ walk judge (count - (i + 1)) (i + 1) next
   turn_good v next e h j g = e ∙ walk_good judge count i at next h (sym j ∙ g)
 
-  pub turn_bad : (v : Verdict) (bad : Bad) (x : Walked) → w ≡ walk judge (count - i) i at → i < count → v ≡ judge at → v ≡ Faulty bad → x ≡ walk_on v i at (λ next. Done) → x ≡ w
+  pub turn_bad : (v : Verdict) (bad : Bad) (x : Walked) → w ≡ walk judge (count - i) i at → i < count → v ≡ judge at → v ≡ Err bad → x ≡ walk_on v i at (λ next. (Ok tt)) → x ≡ w
   turn_bad v bad x e h j g y =
-      y ∙ ap (λ (z : Verdict). walk_on z i at (λ next. Done)) g ∙ after_bad bad i at (λ next. Done) ∙ sym (e ∙ walk_bad judge count i at bad h (sym j ∙ g))
+      y ∙ ap (λ (z : Verdict). walk_on z i at (λ next. (Ok tt))) g ∙ after_bad bad i at (λ next. (Ok tt)) ∙ sym (e ∙ walk_bad judge count i at bad h (sym j ∙ g))
 
-  pub turn_end : w ≡ walk judge (count - i) i at → count ≤ i → Done ≡ w
+  pub turn_end : w ≡ walk judge (count - i) i at → count ≤ i → Ok tt ≡ w
   turn_end e h = sym (e ∙ walk_end judge count i at h)
 
 pub walk_start : (judge : ℕ → Verdict) (count : ℕ) → walk judge count 0 4 ≡ walk judge (count - 0) 0 4
@@ -68,13 +79,15 @@ first_start k b count e =
     let z : count_of b ≡ count - 0 = omega arith in
     ap (λ (n : ℕ). walk (judged k b) n 0 4) z
 
--- the answers of `stop`
-module _ (v : Verdict) (i at : ℕ) where
-  pub stop_good : (next : ℕ) → v ≡ Good next → Done ≡ walk_on v i at (λ next. Done)
-  stop_good next e = sym (ap (λ (z : Verdict). walk_on z i at (λ next. Done)) e ∙ after_good next i at (λ next. Done))
+-- what a loop does that is left by `?`
+module _ (judge : ℕ → Verdict) (count i at : ℕ) (v : Verdict) where
+  pub walk_next : (w : Walked) (next : ℕ) → w ≡ walk judge (count - i) i at → i < count → v ≡ judge at → Ok next ≡ placed v i at → w ≡ walk judge (count - (i + 1)) (i + 1) next
+  walk_next w next e h j g = turn_good judge count i at w v next e h j (placed_ok v i at next g)
 
-  pub stop_bad : (bad : Bad) → v ≡ Faulty bad → Stopped bad (record { index = i; offset = at }) ≡ walk_on v i at (λ next. Done)
-  stop_bad bad e = sym (ap (λ (z : Verdict). walk_on z i at (λ next. Done)) e ∙ after_bad bad i at (λ next. Done))
+  pub walk_stop : (stop : BadElement) → i < count → v ≡ judge at → Err stop ≡ placed v i at → walk judge (count - i) i at ≡ Err stop
+  walk_stop stop h j g =
+      let p = placed_err v i at stop g in
+      walk_bad judge count i at stop.bad h (sym j ∙ p.0) ∙ ap (λ (x : BadElement). Err x) (sym p.1)
 
 -- ---- where the elements start
 module _ (b : List ℕ) (i at : ℕ) where

@@ -5,7 +5,6 @@ use Prim.Native.Nat.{ℕ, zero, suc, ◌+◌, ◌*◌, ◌≤◌, ◌<◌}
 use native.Mathlib.Numerals.{add-one}
 use native.Mathlib.Omega.{arith}
 use lib.ListN.{length}
-use Rattle.gsb.specs.declared.Verdict.TheVariants.{Good}
 use Rattle.gsb.specs.Walk.{count_of, size_at, next_at, offset_at}
 use Rattle.gsb.specs.First.{AllGood}
 use Rattle.gsb.specs.Lookup.{framed}
@@ -13,6 +12,7 @@ use Rattle.gsb.specs.Join.{end_of, Joinable}
 use Rattle.gsb.proofs.Walks.{offset_start, offset_suc, offset_up, length_bounds, bounds_length}
 use Rattle.gsb.proofs.First.{accepted_exactly}
 use Rattle.gsb.proofs.LookupLaws.{framed_good, framed_inside, framed_leads}
+use Rattle.std.proofs.Common.{Ok}
 
 -- `end` says that every counted element lies inside: offsets only grow
 pub record Whole (b : List ℕ) : Type 0 where
@@ -42,7 +42,7 @@ module _ (b : List ℕ) where
   uncut : end_of b ≤ length b → AllGood (framed b) b
   uncut e i h =
       let n : next_at b (offset_at b i) ≤ length b = omega (arith, offset_up b (suc i) (count_of b) h, offset_suc b i) in
-      sym (framed_good b (offset_at b i) (size_at b (offset_at b i)) (omega arith) refl (omega arith)) ∙ ap Good (sym (offset_suc b i) ∙ ap (offset_at b) (sym (add-one i)))
+      sym (framed_good b (offset_at b i) (size_at b (offset_at b i)) (omega arith) refl (omega arith)) ∙ ap Ok (sym (offset_suc b i) ∙ ap (offset_at b) (sym (add-one i)))
 
   pub whole_joinable : Whole b → Joinable b
   whole_joinable w = record { sized = bounds_length b w.long w.short; uncut = (accepted_exactly (framed b) b (framed_leads b)).1 (uncut w.end) }

@@ -1,14 +1,12 @@
 -- 02, L8: "The joining is to be a library operation, written to the result's first bytes, R4 its length."
-use Rattle.std.specs.Prelude.{ℕ, ◌+◌, ◌-◌, ◌≤◌, ◌≡◌, Bool, false, List, [], ◌∷◌, ◌++◌, ltb, length}
+use Rattle.std.specs.Prelude.{ℕ, ◌+◌, ◌-◌, ◌≤◌, ◌≡◌, Bool, false, List, [], ◌∷◌, ◌++◌, ltb, length, Ok}
 use Rattle.octets.specs.Bytes.{bytes_at, put, digits}
 use Rattle.answer.specs.declared.Answer.{Answer}
 use Rattle.answer.specs.declared.RunBuffer.TheVariants.{Output}
 use Rattle.answer.specs.declared.Fault.{Fault}
 use Rattle.answer.specs.declared.Fault.TheVariants.{None, Length, Short}
 use Rattle.answer.specs.Refusals.{first_of}
-use Rattle.gsb.specs.declared.Walked.{Walked}
-use Rattle.gsb.specs.declared.Walked.TheVariants.{Done}
-use Rattle.gsb.specs.Walk.{count_of, offset_at, bad_length, walk, is_stopped, fault_of}
+use Rattle.gsb.specs.Walk.{count_of, offset_at, bad_length, walk, is_stopped, fault_of, Walked}
 use Rattle.gsb.specs.Lookup.{framed}
 
 -- where the counted elements end
@@ -57,7 +55,7 @@ join_into a b r =
 -- neither 5 nor 7
 pub record Joinable (b : List ℕ) : Type 0 where
   pub sized : bad_length b ≡ false
-  pub uncut : cut_of b ≡ Done
+  pub uncut : cut_of b ≡ Ok tt
 
 -- what is accepted: no buffer is refused, the joined one is no longer than 65,536 bytes, and the lent result holds it
 pub record CanJoin (a b r : List ℕ) : Type 0 where

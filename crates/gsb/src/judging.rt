@@ -2,7 +2,6 @@
 ghost use Rattle.std.specs.Prelude.{◌≡◌, ◌+◌, ◌≤◌, ◌<◌, length};
 ghost use Rattle.gsb.specs.Walk.{bad_length, judged};
 
-use super::Verdict;
 use answer::Bad;
 use elements::kind_of;
 use octets::{get16, get32};
@@ -18,30 +17,30 @@ pub fn bad_length(b: &[u8]) -> bool
 }
 
 // An empty NOP is told by one read: long runs of them are common padding.
-pub fn judge(b: &[u8], at: usize, k: Context) -> Verdict
+pub fn judge(b: &[u8], at: usize, k: Context) -> Result<usize, Bad>
     requires { at ≤ length b.now }
     ensures { result ≡ judged k b.now at }
 {
     if b.len() - at < 4 {
-        return Verdict::Faulty(Bad::Size);
+        return Err(Bad::Size);
     }
     if get32(b, at) == 0 {
-        return Verdict::Good(at + 4);
+        return Ok(at + 4);
     }
     let id = get16(b, at);
     let size = get16(b, at + 2) as usize;
     let kind = kind_of(id);
     if !permitted(k, id, kind) {
-        return Verdict::Faulty(Bad::Id);
+        return Err(Bad::Id);
     }
     if !right_size(kind, size) {
-        return Verdict::Faulty(Bad::Size);
+        return Err(Bad::Size);
     }
     if b.len() - at - 4 < size {
-        return Verdict::Faulty(Bad::Size);
+        return Err(Bad::Size);
     }
     if !good_value(k, id, size, b, at + 4) {
-        return Verdict::Faulty(Bad::Value);
+        return Err(Bad::Value);
     }
-    Verdict::Good(at + 4 + size)
+    Ok(at + 4 + size)
 }

@@ -9,23 +9,27 @@ mod lookups;
 mod walk;
 mod write;
 
-use answer::{Bad, Place};
-pub use joining::{Extent, join};
+ghost use Rattle.answer.specs.declared.Fault.TheVariants.{Element};
+ghost use Rattle.std.specs.Prelude.{◌≡◌};
+
+use answer::{Bad, Fault, Place};
+pub use joining::join;
 pub use judging::{bad_length, judge};
-pub use lookups::{Found, Last, lookup, lookup_value};
+pub use lookups::{Found, lookup, lookup_value};
 pub use walk::first_bad;
 pub use write::put_element;
 
-// An element: good, with the offset of the next, or what is wrong with it.
+// The element at which a walk stopped: what is wrong with it, and where it stands.
 #[derive(Clone, Copy)]
-pub enum Verdict {
-    Good(usize),
-    Faulty(Bad),
+pub struct BadElement {
+    pub bad: Bad,
+    pub place: Place,
 }
 
-// All counted elements: good, or the first that is not.
-#[derive(Clone, Copy)]
-pub enum Walked {
-    Done,
-    Stopped(Bad, Place),
+impl From<BadElement> for Fault {
+    ghost from_gives = { λ e fault. fault ≡ Element e.bad e.place };
+
+    fn from(e: BadElement) -> Fault {
+        Fault::Element(e.bad, e.place)
+    }
 }

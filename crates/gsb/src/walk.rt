@@ -1,22 +1,22 @@
 // The walk over the counted elements of a buffer, to the first bad one.
-ghost use Rattle.std.specs.Prelude.{◌≡◌, ◌+◌, ◌≤◌, ◌<◌, length};
-ghost use Rattle.gsb.specs.declared.Walked.TheVariants.{Done};
+ghost use Rattle.std.specs.Prelude.{◌≡◌, ◌+◌, ◌≤◌, ◌<◌, length, Ok};
 ghost use Rattle.gsb.specs.Private.{reach_of, QuickVerdict, Skipped};
 ghost use Rattle.gsb.specs.Walk.{judged, walk_on, first_bad};
 
-use super::{Verdict, Walked, judge};
+use super::{BadElement, judge};
 use answer::{Bad, Place};
 use elements::{Offer, is_offered, is_register};
 use octets::{get_turned, get32};
 use rules::{Context, Usage, of_thread};
 
 // What a verdict that is not good makes of the walk.
-fn stop(verdict: Verdict, index: usize, offset: usize) -> Walked
-    ensures { result ≡ walk_on verdict index offset (λ next. Done) }
+#[tactic(auto, unfolding(crate::specs::Walk::walk_on))]
+fn stop(verdict: Result<usize, Bad>, place: Place) -> Result<(), BadElement>
+    ensures { result ≡ walk_on verdict place.index place.offset (λ next. Ok tt) }
 {
     match verdict {
-        Verdict::Good(_) => Walked::Done,
-        Verdict::Faulty(bad) => Walked::Stopped(bad, Place { index, offset }),
+        Ok(_) => Ok(()),
+        Err(bad) => Err(BadElement { bad, place }),
     }
 }
 
@@ -31,34 +31,34 @@ fn reach(b: &[u8], usage: Usage) -> usize
 }
 
 // The registers but PPR, which every use of a vCPU permits and no value rule names, and an empty NOP: good by one read if they lie
-// well within `room`, which is `reach`, and on the guest's list, which has all vectors. A fault is no verdict: it leaves them to `judge`.
-fn quick(b: &[u8], at: usize, room: usize, offer: Offer) -> Verdict
+// well within `room`, which is `reach`, and on the guest's list, which has all vectors. `None` is no verdict: it leaves them to `judge`.
+fn quick(b: &[u8], at: usize, room: usize, offer: Offer) -> Option<usize>
     requires { (at ≤ length b.now) × (room ≤ length b.now) }
     ensures { QuickVerdict result room offer b.now at }
 {
     if room < at + 12 {
-        return Verdict::Faulty(Bad::Size);
+        return None;
     }
     let key = get_turned(b, at) as usize;
     if is_register(8, key) {
         if key == 0x8_103A {
-            return Verdict::Faulty(Bad::Size);
+            return None;
         }
         if !is_offered(offer, (key % 65536) as u16) {
-            return Verdict::Faulty(Bad::Size);
+            return None;
         }
-        return Verdict::Good(at + 12);
+        return Some(at + 12);
     }
     if key == 0 {
-        return Verdict::Good(at + 4);
+        return Some(at + 4);
     }
     if is_register(16, key) & (at + 20 <= room) {
-        return Verdict::Good(at + 20);
+        return Some(at + 20);
     }
     if is_register(4, key) & is_offered(offer, (key % 65536) as u16) {
-        return Verdict::Good(at + 8);
+        return Some(at + 8);
     }
-    Verdict::Faulty(Bad::Size)
+    None
 }
 
 // Past the elements from a place on that `quick` finds good: a loop of their own is short.
@@ -67,32 +67,30 @@ fn skip(b: &[u8], count: usize, from: Place, room: usize, offer: Offer) -> Place
     ensures { Skipped b.now count room offer from result }
 {
     let mut at = from.offset;
-    let mut i = from.index;
-    while i < count {
-        let Verdict::Good(next) = quick(b, at, room, offer) else {
+    for i in from.index..count {
+        let Some(next) = quick(b, at, room, offer) else {
             return Place {
                 index: i,
                 offset: at,
             };
         };
         at = next;
-        i += 1;
     }
     Place {
-        index: i,
+        index: count,
         offset: at,
     }
 }
 
 // The count is never trusted: the walk leaves at the first header that does not fit.
-pub fn first_bad(b: &[u8], k: Context) -> Walked
+pub fn first_bad(b: &[u8], k: Context) -> Result<(), BadElement>
     requires { 4 ≤ length b.now }
     ensures { result ≡ first_bad k b.now }
 {
     let count = get32(b, 0) as usize;
     // Nothing is counted, as in most runs: the shortest way out.
     if count == 0 {
-        return Walked::Done;
+        return Ok(());
     }
     let usage = k.usage;
     let offer = k.offer;
@@ -110,17 +108,15 @@ pub fn first_bad(b: &[u8], k: Context) -> Walked
             room,
             offer,
         );
-        let index = here.index;
-        let offset = here.offset;
-        if count <= index {
-            break 'walk Walked::Done;
+        if count <= here.index {
+            break 'walk Ok(());
         }
-        let verdict = judge(b, offset, k);
-        let Verdict::Good(next) = verdict else {
-            break 'walk stop(verdict, index, offset);
+        let verdict = judge(b, here.offset, k);
+        let Ok(next) = verdict else {
+            break 'walk stop(verdict, here);
         };
         at = next;
-        i = index + 1;
+        i = here.index + 1;
     };
     end
 }

@@ -13,7 +13,7 @@ use lib.Dec.{leb}
 use lib.ListN.{length}
 use borrow.Author.Tests.{le-leb, lt-leb}
 use Rattle.octets.specs.Bytes.{bytes_at}
-use Rattle.handover.specs.declared.Walked.TheVariants.{Next, Bad}
+use Rattle.std.proofs.Common.{None, Some}
 use Rattle.handover.specs.Form.{size, is_zero, presence, is_shown, next, sound, holds}
 use Rattle.handover.specs.Private.{place, IsPart, after, walked}
 use Rattle.handover.proofs.Walk.{next_on, next_off, sound_on, sound_off}
@@ -108,25 +108,25 @@ module _ (b : List ℕ) (from to wide first m at : ℕ) (ip : IsPart from to wid
       let z : from + ones m - from ≡ ones m = omega arith in
       span_to from to wide first ip (from + ones m) (omega arith) count_upto ∙ ap₂ (λ (i j : ℕ). i + j * wide) (sym ip.start) z
 
-  walked_is : at ≤ length b → walked b from (to - from) at ≡ cond (leb (at + ones m * wide) (length b) && solid b wide (ones m) at) (Next (at + ones m * wide)) Bad
+  walked_is : at ≤ length b → walked b from (to - from) at ≡ cond (leb (at + ones m * wide) (length b) && solid b wide (ones m) at) (Some (at + ones m * wide)) None
   unfolding walked
   walked_is h =
       let f : (y : ℕ) → from ≤ y → y < from + (to - from) → size y ≡ wide = λ y i j. ip.alike y i (omega arith) in
-      ap₂ (λ (t : Bool) (k : ℕ). cond t (Next k) Bad)
+      ap₂ (λ (t : Bool) (k : ℕ). cond t (Some k) None)
       (holds_count b wide (to - from) from at f h ∙ ap (λ (i : ℕ). leb (at + ones i * wide) (length b) && solid b wide (ones i) at) (sym w))
       (after_count b wide (to - from) from at f ∙ ap (λ (i : ℕ). at + ones i * wide) (sym w))
 
-  pub count_short : (r : ℕ) → r ≡ place (from + ones m) → at ≤ length b → length b - at < r - first → Bad ≡ walked b from (to - from) at
+  pub count_short : (r : ℕ) → r ≡ place (from + ones m) → at ≤ length b → length b - at < r - first → None ≡ walked b from (to - from) at
   count_short r e h l =
       let x : length b < at + ones m * wide = omega (arith, e, long_is) in
-      sym (walked_is h ∙ ap (λ (t : Bool). cond (t && solid b wide (ones m) at) (Next (at + ones m * wide)) Bad) (lt-leb _ _ x))
+      sym (walked_is h ∙ ap (λ (t : Bool). cond (t && solid b wide (ones m) at) (Some (at + ones m * wide)) None) (lt-leb _ _ x))
 
   module _ (r : ℕ) (e : r ≡ place (from + ones m)) (h : at ≤ length b) (l : r - first ≤ length b - at) where
     inside : at + ones m * wide ≤ length b
     inside = omega (arith, e, long_is)
 
-    walked_solid : walked b from (to - from) at ≡ cond (solid b wide (ones m) at) (Next (at + ones m * wide)) Bad
-    walked_solid = walked_is h ∙ ap (λ (t : Bool). cond (t && solid b wide (ones m) at) (Next (at + ones m * wide)) Bad) (le-leb _ _ inside)
+    walked_solid : walked b from (to - from) at ≡ cond (solid b wide (ones m) at) (Some (at + ones m * wide)) None
+    walked_solid = walked_is h ∙ ap (λ (t : Bool). cond (t && solid b wide (ones m) at) (Some (at + ones m * wide)) None) (le-leb _ _ inside)
 
     -- i of them are passed, and the next is at `here`
     module _ (i here : ℕ) (p : here + place from ≡ at + place (from + i)) where
@@ -153,16 +153,16 @@ module _ (b : List ℕ) (from to wide first m at : ℕ) (ip : IsPart from to wid
           count_stop : z ≡ true → t ≡ false
           count_stop y = q ∙ solid_first ∙ ap (λ (u : Bool). not u && solid b wide (ones m - (i + 1)) (here + wide)) (sym x ∙ y)
 
-        pub count_bad : (z : Bool) → solid b wide (ones m) at ≡ solid b wide (ones m - i) here → z ≡ is_zero (bytes_at b here wide) → z ≡ true → Bad ≡ walked b from (to - from) at
-        count_bad z q x y = sym (walked_solid ∙ ap (λ (u : Bool). cond u (Next (at + ones m * wide)) Bad) (count_stop (solid b wide (ones m) at) z q x y))
+        pub count_bad : (z : Bool) → solid b wide (ones m) at ≡ solid b wide (ones m - i) here → z ≡ is_zero (bytes_at b here wide) → z ≡ true → None ≡ walked b from (to - from) at
+        count_bad z q x y = sym (walked_solid ∙ ap (λ (u : Bool). cond u (Some (at + ones m * wide)) None) (count_stop (solid b wide (ones m) at) z q x y))
 
-      pub count_end : solid b wide (ones m) at ≡ solid b wide (ones m - i) here → i ≤ ones m → ones m ≤ i → Next here ≡ walked b from (to - from) at
+      pub count_end : solid b wide (ones m) at ≡ solid b wide (ones m - i) here → i ≤ ones m → ones m ≤ i → Some here ≡ walked b from (to - from) at
       unfolding solid
       count_end q u v =
           let z : ones m - i ≡ 0 = omega arith in
           let x : i ≡ ones m = omega arith in
           let y : at + ones m * wide ≡ here = omega (arith, long_is, ip.start, ap (λ (k : ℕ). place (from + k)) x) in
-          sym (walked_solid ∙ ap₂ (λ (t : Bool) (k : ℕ). cond t (Next k) Bad) (q ∙ ap (λ (k : ℕ). solid b wide k here) z) y)
+          sym (walked_solid ∙ ap₂ (λ (t : Bool) (k : ℕ). cond t (Some k) None) (q ∙ ap (λ (k : ℕ). solid b wide k here) z) y)
 
 -- ---- the loop's ends
 pub place_start : (from at : ℕ) → at + place from ≡ at + place (from + 0)

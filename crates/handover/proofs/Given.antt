@@ -14,8 +14,7 @@ use Rattle.octets.specs.Bytes.{bytes_at, put, be}
 use Rattle.octets.specs.Bits.{bits}
 use Rattle.octets.proofs.Bytes.{put_append}
 use Rattle.octets.proofs.Bits.{bits_lt, bits_add, bits_be}
-use Rattle.handover.specs.declared.Walked.{Walked}
-use Rattle.handover.specs.declared.Walked.TheVariants.{Next, Bad}
+use Rattle.std.proofs.Common.{Option, None, Some, is_some}
 use Rattle.handover.specs.Form.{size, is_zero, presence, behind, is_shown, next, read, sound, holds, given, opens, begins, values_of, given_back}
 use Rattle.handover.specs.Private.{place, after, walked, Gave}
 use Rattle.handover.proofs.Values.{both}
@@ -75,36 +74,44 @@ after_inside b (suc n) e at g h =
     after_inside b n (e + 1) (next b e at) p.1 (sound_inside b e at p.0 h)
 
 -- ---- judged
-walked_holds : (b : List ℕ) (e n at k : ℕ) → walked b e n at ≡ Next k → (holds b e n at ≡ true) × (k ≡ after b e n at)
+walked_holds : (b : List ℕ) (e n at k : ℕ) → walked b e n at ≡ Some k → (holds b e n at ≡ true) × (k ≡ after b e n at)
 unfolding walked
 walked_holds b e n at k h = go (holds b e n at) refl
   where
     go : (t : Bool) → holds b e n at ≡ t → (holds b e n at ≡ true) × (k ≡ after b e n at)
-    go true t = let y : Next (after b e n at) ≡ Next k = sym (ap (λ (z : Bool). cond z (Next (after b e n at)) Bad) t) ∙ h in (t, cc)
-    go false t = let y : Bad ≡ Next k = sym (ap (λ (z : Bool). cond z (Next (after b e n at)) Bad) t) ∙ h in let z : ◌≡◌ {A = ℕ} 0 1 = cc in absurd (omega arith)
+    go true t = let y : Some (after b e n at) ≡ Some k = sym (ap (λ (z : Bool). cond z (Some (after b e n at)) None) t) ∙ h in (t, cc)
+    go false t = let y : None ≡ Some k = sym (ap (λ (z : Bool). cond z (Some (after b e n at)) None) t) ∙ h in let z : ◌≡◌ {A = ℕ} 0 1 = cc in absurd (omega arith)
 
-walked_not : (b : List ℕ) (e n at : ℕ) → walked b e n at ≡ Bad → holds b e n at ≡ false
+walked_not : (b : List ℕ) (e n at : ℕ) → walked b e n at ≡ None → holds b e n at ≡ false
 unfolding walked
 walked_not b e n at h = go (holds b e n at) refl
   where
     go : (t : Bool) → holds b e n at ≡ t → holds b e n at ≡ false
-    go true t = let y : Next (after b e n at) ≡ Bad = sym (ap (λ (z : Bool). cond z (Next (after b e n at)) Bad) t) ∙ h in let z : ◌≡◌ {A = ℕ} 0 1 = cc in absurd (omega arith)
+    go true t = let y : Some (after b e n at) ≡ None = sym (ap (λ (z : Bool). cond z (Some (after b e n at)) None) t) ∙ h in let z : ◌≡◌ {A = ℕ} 0 1 = cc in absurd (omega arith)
     go false t = t
 
-pub walk_within : (e n : ℕ) (b : List ℕ) (at k : ℕ) (r : Walked) → r ≡ walked b e n at → r ≡ Next k → at ≤ length b → k ≤ length b
-walk_within e n b at k r w x h = let g = walked_holds b e n at k (sym w ∙ x) in rw g.1 (after_inside b n e at g.0 h)
-
-pub walk_on_lem : (e n m : ℕ) (b : List ℕ) (at k : ℕ) (r q : Walked) → r ≡ walked b e n at → r ≡ Next k → q ≡ walked b (e + n) m k → q ≡ walked b e (n + m) at
+walked_some : (b : List ℕ) (e n at : ℕ) → is_some (walked b e n at) ≡ holds b e n at
 unfolding walked
-walk_on_lem e n m b at k r q w x u =
-    let g = walked_holds b e n at k (sym w ∙ x) in
+walked_some b e n at = go (holds b e n at)
+  where
+    go : (t : Bool) → is_some (cond t (Some (after b e n at)) None) ≡ t
+    go true = refl
+    go false = refl
+
+pub walk_within : (e n : ℕ) (b : List ℕ) (at k : ℕ) → Some k ≡ walked b e n at → at ≤ length b → k ≤ length b
+walk_within e n b at k w h = let g = walked_holds b e n at k (sym w) in rw g.1 (after_inside b n e at g.0 h)
+
+pub walk_on_lem : (e n m : ℕ) (b : List ℕ) (at k : ℕ) (q : Option ℕ) → Some k ≡ walked b e n at → q ≡ walked b (e + n) m k → q ≡ walked b e (n + m) at
+unfolding walked
+walk_on_lem e n m b at k q w u =
+    let g = walked_holds b e n at k (sym w) in
     u ∙ ap (walked b (e + n) m) g.1
-    ∙ sym (ap₂ (λ (t : Bool) (i : ℕ). cond t (Next i) Bad) (holds_add b m n e at ∙ ap (λ (t : Bool). t && holds b (e + n) m (after b e n at)) g.0) (after_add b m n e at))
+    ∙ sym (ap₂ (λ (t : Bool) (i : ℕ). cond t (Some i) None) (holds_add b m n e at ∙ ap (λ (t : Bool). t && holds b (e + n) m (after b e n at)) g.0) (after_add b m n e at))
 
-pub walk_off : (e n m : ℕ) (b : List ℕ) (at : ℕ) (r : Walked) → r ≡ walked b e n at → r ≡ Bad → Bad ≡ walked b e (n + m) at
+pub walk_off : (e n m : ℕ) (b : List ℕ) (at : ℕ) → None ≡ walked b e n at → None ≡ walked b e (n + m) at
 unfolding walked
-walk_off e n m b at r w x =
-    sym (ap (λ (t : Bool). cond t (Next (after b e (n + m) at)) Bad) (holds_add b m n e at ∙ ap (λ (t : Bool). t && holds b (e + n) m (after b e n at)) (walked_not b e n at (sym w ∙ x))))
+walk_off e n m b at w =
+    sym (ap (λ (t : Bool). cond t (Some (after b e (n + m) at)) None) (holds_add b m n e at ∙ ap (λ (t : Bool). t && holds b (e + n) m (after b e n at)) (walked_not b e n at (sym w))))
 
 refuted : (t : Bool) → (t ≡ true → ⊥) → false ≡ t
 refuted true h = absurd (h refl)
@@ -172,16 +179,16 @@ module _ (b : List ℕ) (vcpu : ℕ) (o : Bool) (e : o ≡ opens vcpu b) where
   apart : false ≡ true → ⊥
   apart y = let z : ◌≡◌ {A = ℕ} 0 1 = cc in omega arith
 
-  pub not_open : not o ≡ true → false ≡ begins vcpu b
-  not_open x = refuted (begins vcpu b) (λ (y : begins vcpu b ≡ true). apart (sym (not-true o x) ∙ e ∙ (begins_parts vcpu b y).1))
+  pub not_open : o ≡ false → false ≡ begins vcpu b
+  not_open x = refuted (begins vcpu b) (λ (y : begins vcpu b ≡ true). apart (sym x ∙ e ∙ (begins_parts vcpu b y).1))
 
-  module _ (r : Walked) (u : r ≡ walked b 0 170 24) where
-    pub values_wrong : r ≡ Bad → false ≡ begins vcpu b
-    values_wrong x = refuted (begins vcpu b) (λ (y : begins vcpu b ≡ true). apart (sym (walked_not b 0 170 24 (sym u ∙ x)) ∙ (begins_parts vcpu b y).2))
-
-    pub all_right : not o ≡ false → 24 ≤ length b → (j : ℕ) → r ≡ Next j → true ≡ begins vcpu b
-    unfolding begins
-    all_right f n j z = sym (simp (le-leb _ _ n, sym e ∙ not-false o f, (walked_holds b 0 170 24 j (sym u ∙ z)).0))
+  -- it begins with a form if the values are sound
+  pub judged : o ≡ true → 24 ≤ length b → (r : Option ℕ) → r ≡ walked b 0 170 24 → is_some r ≡ begins vcpu b
+  unfolding begins
+  judged f n r u = ap is_some u ∙ held ∙ sym (simp (le-leb _ _ n, sym e ∙ f))
+    where
+      held : is_some (walked b 0 170 24) ≡ holds b 0 170 24
+      held = walked_some b 0 170 24
 
 -- ---- stored
 pub begins_holds : (b : List ℕ) (vcpu : ℕ) (x : Bool) → x ≡ begins vcpu b → not x ≡ false → holds b 0 170 24 ≡ true

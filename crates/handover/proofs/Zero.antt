@@ -2,17 +2,23 @@
 use mathlib.Core.Path.{◌≡◌, refl, sym, ap, ap₂, ◌∙◌}
 use mathlib.Core.Bool.{Bool, true, false, ◌&&◌}
 use mathlib.Core.List.{List, [], ◌∷◌, ◌++◌}
-use Prim.Native.Nat.{ℕ, zero, suc, ◌+◌, ◌-◌, ◌*◌, ◌≤◌, ◌<◌}
+use Prim.Native.Nat.{ℕ, zero, suc, ◌+◌, ◌*◌, ◌≤◌, ◌<◌}
 use native.Mathlib.Numerals.{add-one}
 use native.Mathlib.Decide.{ℕ_discrete}
 use native.Mathlib.Omega.{arith}
 use lib.Bits.{bit_or, bit_and, and_le_l, and_le_r, or_add_and}
 use lib.Dec.{eqb}
-use lib.ListN.{length, get_or}
-use borrow.Author.Tests.{eq-eqb, ne_eqb}
+use lib.ListN.{length, get_or, take, drop}
+use borrow.Author.Tests.{eq-eqb, ne_eqb, eqb-true}
+use mathlib.Core.Logic.{◌↔◌}
+use Rattle.std.proofs.Common.{All, IsTrue}
 use Rattle.octets.specs.Bytes.{bytes_at, be}
-use Rattle.octets.proofs.Bytes.{part_none, part_one, part_append}
+use Rattle.octets.proofs.Bytes.{part_none, part_one, part_append, part_lent}
 use Rattle.handover.specs.Form.{is_zero}
+
+and_parts : (p q : Bool) → p && q ≡ true → (p ≡ true) × (q ≡ true)
+and_parts true q e = (refl, e)
+and_parts false q e = absurd (cc)
 
 zero_append : (x y : List ℕ) → is_zero (x ++ y) ≡ is_zero x && is_zero y
 unfolding is_zero
@@ -35,29 +41,24 @@ zero_byte s at h = ap is_zero (part_one s at h) ∙ end (eqb (get_or s at 0) 0)
     end false = refl
 
 -- ---- by bytes
-module _ (s : List ℕ) (at i n : ℕ) (h : at + n ≤ length s) (l : i < n) where
-  zero_first : is_zero (bytes_at s (at + i) (n - i)) ≡ eqb (get_or s (at + i) 0) 0 && is_zero (bytes_at s (at + (i + 1)) (n - (i + 1)))
-  zero_first =
-      let a : n - i ≡ 1 + (n - (i + 1)) = omega arith in
-      let c : at + i + 1 ≡ at + (i + 1) = omega arith in
-      ap (λ (k : ℕ). is_zero (bytes_at s (at + i) k)) a ∙ zero_parts s (at + i) 1 (n - (i + 1))
-      ∙ ap₂ (λ (p : Bool) (k : ℕ). p && is_zero (bytes_at s k (n - (i + 1)))) (zero_byte s (at + i) (omega arith)) c
-
-  pub zero_stop : (z : Bool) → z ≡ is_zero (bytes_at s (at + i) (n - i)) → (get_or s (at + i) 0 ≡ 0 → ⊥) → false ≡ z
-  zero_stop z e f = sym (e ∙ zero_first ∙ ap (λ (p : Bool). p && is_zero (bytes_at s (at + (i + 1)) (n - (i + 1)))) (ne_eqb _ _ f))
-
-  pub zero_turn : (z : Bool) → z ≡ is_zero (bytes_at s (at + i) (n - i)) → get_or s (at + i) 0 ≡ 0 → z ≡ is_zero (bytes_at s (at + (i + 1)) (n - (i + 1)))
-  zero_turn z e f = e ∙ zero_first ∙ ap (λ (p : Bool). p && is_zero (bytes_at s (at + (i + 1)) (n - (i + 1)))) (eq-eqb _ _ f)
-
-pub zero_start : (s : List ℕ) (at n : ℕ) → is_zero (bytes_at s at n) ≡ is_zero (bytes_at s (at + 0) (n - 0))
-zero_start s at n =
-    let a : at ≡ at + 0 = omega arith in
-    let c : n ≡ n - 0 = omega arith in
-    ap₂ (λ (i j : ℕ). is_zero (bytes_at s i j)) a c
-
-pub zero_end : (s : List ℕ) (at i n : ℕ) (z : Bool) → z ≡ is_zero (bytes_at s (at + i) (n - i)) → n ≤ i → true ≡ z
+all_zero : (x : List ℕ) → All (λ (a : ℕ). a ≡ 0) x → is_zero x ≡ true
 unfolding is_zero
-zero_end s at i n z e h = let a : n - i ≡ 0 = omega arith in sym (e ∙ ap (λ (k : ℕ). is_zero (bytes_at s (at + i) k)) a ∙ ap is_zero (part_none s (at + i)))
+all_zero [] h = refl
+all_zero (a ∷ x) h = ap₂ (λ (p q : Bool). p && q) (eq-eqb a 0 (h 0 0 (omega arith))) (all_zero x (λ k d l. h (suc k) d (omega arith)))
+
+zero_each : (x : List ℕ) → is_zero x ≡ true → All (λ (a : ℕ). a ≡ 0) x
+unfolding is_zero
+zero_each [] e k d l = absurd (omega arith)
+zero_each (a ∷ x) e zero d l = eqb-true a 0 (and_parts (eqb a 0) (is_zero x) e).0
+zero_each (a ∷ x) e (suc k) d l = zero_each x (and_parts (eqb a 0) (is_zero x) e).1 k d (omega arith)
+
+pub zero_all : (s : List ℕ) (at n : ℕ) (r : Bool) → IsTrue r ↔ All (λ (a : ℕ). a ≡ 0) (take n (drop at s)) → r ≡ is_zero (bytes_at s at n)
+zero_all s at n r h = go r (is_zero (take n (drop at s))) refl refl ∙ ap is_zero (part_lent s at n)
+  where
+    go : (p q : Bool) → r ≡ p → is_zero (take n (drop at s)) ≡ q → r ≡ is_zero (take n (drop at s))
+    go true q e f = e ∙ sym (all_zero (take n (drop at s)) (h.0 e))
+    go false false e f = e ∙ sym f
+    go false true e f = h.1 (zero_each (take n (drop at s)) f) ∙ sym f
 
 -- ---- by numbers
 sum_zero : (x y : ℕ) → eqb (x * 256 + y) 0 ≡ eqb x 0 && eqb y 0

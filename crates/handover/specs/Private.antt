@@ -1,10 +1,8 @@
 -- Names that only the contracts of inner functions use: a part is elements of one size that follow one another.
-use Rattle.std.specs.Prelude.{ℕ, zero, suc, ◌+◌, ◌-◌, ◌*◌, ◌^◌, ◌≤◌, ◌<◌, ◌≡◌, not, cond, List, ◌++◌, length}
+use Rattle.std.specs.Prelude.{ℕ, zero, suc, ◌+◌, ◌-◌, ◌*◌, ◌^◌, ◌≤◌, ◌<◌, ◌≡◌, not, cond, List, ◌++◌, length, Option, None, Some}
 use Rattle.octets.specs.Bytes.{bytes_at, put, digits, zeros}
 use Rattle.handover.specs.declared.Run.{Run}
 use Rattle.handover.specs.declared.Words.{Words}
-use Rattle.handover.specs.declared.Walked.{Walked}
-use Rattle.handover.specs.declared.Walked.TheVariants.{Next, Bad}
 use Rattle.handover.specs.Form.{count, size, is_zero, present, presence, head, kept, body, next, holds, given}
 
 -- the bytes before element e: its position, by `position_is`, and behind the last all bytes of a state
@@ -53,8 +51,8 @@ unfoldable pub after : List ℕ → ℕ → ℕ → ℕ → ℕ
 after b e zero at = at
 after b e (suc n) at = after b (e + 1) n (next b e at)
 
-unfoldable pub walked : List ℕ → ℕ → ℕ → ℕ → Walked
-walked b e n at = cond (holds b e n at) (Next (after b e n at)) Bad
+unfoldable pub walked : List ℕ → ℕ → ℕ → ℕ → Option ℕ
+walked b e n at = cond (holds b e n at) (Some (after b e n at)) None
 
 -- the values of the elements from `from` to `to` are zero
 pub record Blank (s : List ℕ) (base from to : ℕ) : Type 0 where

@@ -5,7 +5,7 @@ ghost use Rattle.handover.specs.Private.{place, IsPart, Blank, Gave};
 
 use super::head::{presence_first, presence_second, presence_third};
 use super::judging::judge;
-use super::parts::{A, B, C, D, E, F, G, H, I, place_in};
+use super::parts::{A, B, C, D, E, F, G, H, I, Part};
 use octets::{clear, copy};
 
 // The top digit of a number, and the number without it.
@@ -31,20 +31,12 @@ fn is_full(m: u64, n: usize) -> bool
 }
 
 // From one present value to the next, by the leading zeros of the bits that are left; what lies between is zero already.
-fn give_shown(
-    store: &mut [u8],
-    base: usize,
-    b: &[u8],
-    from: usize,
-    to: usize,
-    size: usize,
-    first: usize,
-    m: u64,
-    at: usize,
-) -> usize
-    requires { IsPart from to size first × (base + state_bytes ≤ length store.old) × (m ≡ presence (is_shown b.now) from (to - from)) × (at ≤ length b.now) × (holds b.now from (to - from) at ≡ true) × Blank store.old base from to }
-    ensures { Gave b.now base from (to - from) at result store.old store.new }
+#[inline(always)]
+fn give_shown(store: &mut [u8], base: usize, b: &[u8], part: Part, m: u64, at: usize) -> usize
+    requires { IsPart part.from part.to part.size part.first × (base + state_bytes ≤ length store.old) × (m ≡ presence (is_shown b.now) part.from (part.to - part.from)) × (at ≤ length b.now) × (holds b.now part.from (part.to - part.from) at ≡ true) × Blank store.old base part.from part.to }
+    ensures { Gave b.now base part.from (part.to - part.from) at result store.old store.new }
 {
+    let Part { from, to, size, .. } = part;
     let mut left = m;
     let mut e = from;
     let mut here = at;
@@ -52,7 +44,7 @@ fn give_shown(
         let digit = top_digit(left);
         left = without(left, digit);
         e = to - digit;
-        let place = place_in(from, to, size, first, e - 1);
+        let place = part.place_of(e - 1);
         copy(b, here, store, base + place, size);
         here += size;
     }
@@ -60,27 +52,24 @@ fn give_shown(
 }
 
 // If all are present, they are copied at once.
-fn give_part(
-    store: &mut [u8],
-    base: usize,
-    b: &[u8],
-    from: usize,
-    to: usize,
-    size: usize,
-    first: usize,
-    m: u64,
-    at: usize,
-) -> usize
-    requires { IsPart from to size first × (base + state_bytes ≤ length store.old) × (m ≡ presence (is_shown b.now) from (to - from)) × (at ≤ length b.now) × (holds b.now from (to - from) at ≡ true) }
-    ensures { Gave b.now base from (to - from) at result store.old store.new }
+#[inline(always)]
+fn give_part(store: &mut [u8], base: usize, b: &[u8], part: Part, m: u64, at: usize) -> usize
+    requires { IsPart part.from part.to part.size part.first × (base + state_bytes ≤ length store.old) × (m ≡ presence (is_shown b.now) part.from (part.to - part.from)) × (at ≤ length b.now) × (holds b.now part.from (part.to - part.from) at ≡ true) }
+    ensures { Gave b.now base part.from (part.to - part.from) at result store.old store.new }
 {
-    let long = place_in(from, to, size, first, to) - first;
+    let Part {
+        from,
+        to,
+        first,
+        ..
+    } = part;
+    let long = part.place_of(to) - first;
     if is_full(m, to - from) {
         copy(b, at, store, base + first, long);
         return at + long;
     }
     clear(store, base + first, long);
-    give_shown(store, base, b, from, to, size, first, m, at)
+    give_shown(store, base, b, part, m, at)
 }
 
 fn give_first(store: &mut [u8], base: usize, b: &[u8], m: u64) -> usize
@@ -89,10 +78,8 @@ fn give_first(store: &mut [u8], base: usize, b: &[u8], m: u64) -> usize
 {
     let x = m / 0x4000_0000_0000;
     let y = m % 0x4000_0000_0000;
-    let p = A;
-    let at = give_part(store, base, b, p.from, p.to, p.size, p.first, x, 24);
-    let p = B;
-    give_part(store, base, b, p.from, p.to, p.size, p.first, y, at)
+    let at = give_part(store, base, b, A, x, 24);
+    give_part(store, base, b, B, y, at)
 }
 
 fn give_second(store: &mut [u8], base: usize, b: &[u8], m: u64, at: usize) -> usize
@@ -102,12 +89,9 @@ fn give_second(store: &mut [u8], base: usize, b: &[u8], m: u64, at: usize) -> us
     let x = m / 0x200_0000;
     let y = m / 0x400 % 0x8000;
     let z = m % 0x400;
-    let p = C;
-    let at = give_part(store, base, b, p.from, p.to, p.size, p.first, x, at);
-    let p = D;
-    let at = give_part(store, base, b, p.from, p.to, p.size, p.first, y, at);
-    let p = E;
-    give_part(store, base, b, p.from, p.to, p.size, p.first, z, at)
+    let at = give_part(store, base, b, C, x, at);
+    let at = give_part(store, base, b, D, y, at);
+    give_part(store, base, b, E, z, at)
 }
 
 // The elements behind the vectors.
@@ -118,12 +102,9 @@ fn give_last(store: &mut [u8], base: usize, b: &[u8], m: u64, at: usize) -> usiz
     let x = m / 8;
     let y = m / 2 % 4;
     let z = m % 2;
-    let p = G;
-    let at = give_part(store, base, b, p.from, p.to, p.size, p.first, x, at);
-    let p = H;
-    let at = give_part(store, base, b, p.from, p.to, p.size, p.first, y, at);
-    let p = I;
-    give_part(store, base, b, p.from, p.to, p.size, p.first, z, at)
+    let at = give_part(store, base, b, G, x, at);
+    let at = give_part(store, base, b, H, y, at);
+    give_part(store, base, b, I, z, at)
 }
 
 fn give_third(store: &mut [u8], base: usize, b: &[u8], m: u64, at: usize) -> usize
@@ -132,8 +113,7 @@ fn give_third(store: &mut [u8], base: usize, b: &[u8], m: u64, at: usize) -> usi
 {
     let x = m / 16;
     let y = m % 16;
-    let p = F;
-    let at = give_part(store, base, b, p.from, p.to, p.size, p.first, x, at);
+    let at = give_part(store, base, b, F, x, at);
     give_last(store, base, b, y, at)
 }
 

@@ -26,10 +26,3 @@ pub struct Words {
     pub second: u64,
     pub third: u64,
 }
-
-// Where the next value is, if those so far are sound.
-#[derive(Clone, Copy)]
-pub enum Walked {
-    Next(usize),
-    Bad,
-}

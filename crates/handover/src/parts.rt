@@ -3,14 +3,24 @@
 ghost use Rattle.std.specs.Prelude.{◌≡◌, ◌≤◌};
 ghost use Rattle.handover.specs.Private.{place, IsPart};
 
-// The elements from one to before another, their size, and where the first value lies in a state. Handed on number by number: the compiler
-// sees no constant through a struct. Read into a local first: the check makes a struct of each mention of a constant.
+// The elements from one to before another, their size, and where the first value lies in a state. What goes over a part stands in line at
+// each call (`inline(always)`): only there the compiler sees the size as a constant.
 #[derive(Clone, Copy)]
 pub struct Part {
     pub from: usize,
     pub to: usize,
     pub size: usize,
     pub first: usize,
+}
+
+impl Part {
+    // Where a value of a part lies in a state.
+    pub fn place_of(self, e: usize) -> usize
+        requires { IsPart self.from self.to self.size self.first × (self.from ≤ e) × (e ≤ self.to) }
+        ensures { result ≡ place e }
+    {
+        self.first + (e - self.from) * self.size
+    }
 }
 
 // 0x0C00 and 0x0C01, the run buffers.
@@ -84,11 +94,3 @@ pub const I: Part = Part {
     size: 8,
     first: 1812,
 };
-
-// Where a value of a part lies in a state.
-pub fn place_in(from: usize, to: usize, size: usize, first: usize, e: usize) -> usize
-    requires { IsPart from to size first × (from ≤ e) × (e ≤ to) }
-    ensures { result ≡ place e }
-{
-    first + (e - from) * size
-}

@@ -5,7 +5,7 @@ ghost use Rattle.handover.specs.Form.{state_bytes, kept, state_at, taken};
 ghost use Rattle.handover.specs.Private.{place, IsPart, onward, Room, Wrote, WroteAll};
 
 use super::head::put_head;
-use super::parts::{A, B, C, D, E, F, G, H, I};
+use super::parts::{A, B, C, D, E, F, G, H, I, Part};
 use super::zeros::is_zero;
 use super::{Run, Words};
 use octets::{clear, copy};
@@ -16,10 +16,7 @@ fn take_one(store: &[u8], from: usize, n: usize, buffer: &mut [u8], run: Run) ->
 {
     if is_zero(store, from, n) {
         let word = run.word * 2;
-        return Run {
-            at: run.at,
-            word: word,
-        };
+        return Run { at: run.at, word };
     }
     copy(store, from, buffer, run.at, n);
     Run {
@@ -29,26 +26,22 @@ fn take_one(store: &[u8], from: usize, n: usize, buffer: &mut [u8], run: Run) ->
 }
 
 // One loop for all sizes: it stands in line at each call, where the size is known.
-fn take_part(
-    store: &[u8],
-    base: usize,
-    from: usize,
-    to: usize,
-    size: usize,
-    first: usize,
-    buffer: &mut [u8],
-    run: Run,
-) -> Run
-    requires { IsPart from to size first × (base + state_bytes ≤ length store.now) × Room from to run (length buffer.old) }
-    ensures { Wrote (state_at store.now base) from (to - from) run result buffer.old buffer.new }
+#[inline(always)]
+fn take_part(store: &[u8], base: usize, part: Part, buffer: &mut [u8], run: Run) -> Run
+    requires { IsPart part.from part.to part.size part.first × (base + state_bytes ≤ length store.now) × Room part.from part.to run (length buffer.old) }
+    ensures { Wrote (state_at store.now base) part.from (part.to - part.from) run result buffer.old buffer.new }
 {
-    let mut e = from;
+    let Part {
+        from,
+        to,
+        size,
+        first,
+    } = part;
     let mut here = base + first;
     let mut so_far = run;
-    while e < to {
+    for _e in from..to {
         so_far = take_one(store, here, size, buffer, so_far);
         here += size;
-        e += 1;
     }
     so_far
 }
@@ -61,23 +54,18 @@ fn take_first(store: &[u8], base: usize, vcpu: u64, buffer: &mut [u8]) -> Run
         at: 24,
         word: 0x1000 + 2 * vcpu,
     };
-    let p = A;
-    let run = take_part(store, base, p.from, p.to, p.size, p.first, buffer, run);
-    let p = B;
-    take_part(store, base, p.from, p.to, p.size, p.first, buffer, run)
+    let run = take_part(store, base, A, buffer, run);
+    take_part(store, base, B, buffer, run)
 }
 
 fn take_second(store: &[u8], base: usize, buffer: &mut [u8], at: usize) -> Run
     requires { (base + state_bytes ≤ length store.now) × (at + state_bytes ≤ place 48 + length buffer.old) }
     ensures { Wrote (state_at store.now base) 48 64 (record { at = at; word = 0 }) result buffer.old buffer.new }
 {
-    let run = Run { at: at, word: 0 };
-    let p = C;
-    let run = take_part(store, base, p.from, p.to, p.size, p.first, buffer, run);
-    let p = D;
-    let run = take_part(store, base, p.from, p.to, p.size, p.first, buffer, run);
-    let p = E;
-    take_part(store, base, p.from, p.to, p.size, p.first, buffer, run)
+    let run = Run { at, word: 0 };
+    let run = take_part(store, base, C, buffer, run);
+    let run = take_part(store, base, D, buffer, run);
+    take_part(store, base, E, buffer, run)
 }
 
 // The elements behind the vectors.
@@ -85,21 +73,17 @@ fn take_last(store: &[u8], base: usize, buffer: &mut [u8], run: Run) -> Run
     requires { (base + state_bytes ≤ length store.now) × Room 166 170 run (length buffer.old) }
     ensures { Wrote (state_at store.now base) 166 4 run result buffer.old buffer.new }
 {
-    let p = G;
-    let run = take_part(store, base, p.from, p.to, p.size, p.first, buffer, run);
-    let p = H;
-    let run = take_part(store, base, p.from, p.to, p.size, p.first, buffer, run);
-    let p = I;
-    take_part(store, base, p.from, p.to, p.size, p.first, buffer, run)
+    let run = take_part(store, base, G, buffer, run);
+    let run = take_part(store, base, H, buffer, run);
+    take_part(store, base, I, buffer, run)
 }
 
 fn take_third(store: &[u8], base: usize, buffer: &mut [u8], at: usize) -> Run
     requires { (base + state_bytes ≤ length store.now) × (at + state_bytes ≤ place 112 + length buffer.old) }
     ensures { Wrote (state_at store.now base) 112 58 (record { at = at; word = 0 }) result buffer.old buffer.new }
 {
-    let run = Run { at: at, word: 0 };
-    let p = F;
-    let run = take_part(store, base, p.from, p.to, p.size, p.first, buffer, run);
+    let run = Run { at, word: 0 };
+    let run = take_part(store, base, F, buffer, run);
     take_last(store, base, buffer, run)
 }
 

@@ -10,14 +10,7 @@ fn zero_bytes(s: &[u8], at: usize, n: usize) -> bool
     requires { at + n ≤ length s.now }
     ensures { result ≡ is_zero (bytes_at s.now at n) }
 {
-    let mut i = 0;
-    while i < n {
-        if s[at + i] != 0 {
-            return false;
-        }
-        i += 1;
-    }
-    true
+    s[at..at + n].iter().all(|byte| *byte == 0)
 }
 
 // The sizes of thread elements by whole words and with no branch: which values are there can't be foretold.

@@ -1,6 +1,6 @@
 -- A value beside ours, and the answers of the functions below the walk, in the form of their needs. Assumes nothing.
 use mathlib.Core.Path.{◌≡◌, refl, sym, ap, ap₂, ◌∙◌, subst}
-use mathlib.Core.Bool.{Bool, true, false, cond}
+use mathlib.Core.Bool.{Bool, true, false}
 use mathlib.Core.List.{List, [], ◌∷◌, ◌++◌}
 use Prim.Native.Nat.{ℕ, ◌+◌, ◌≤◌, ◌<◌}
 use native.Mathlib.Omega.{arith}
@@ -13,8 +13,9 @@ use Rattle.octets.specs.Bytes.{bytes_at, be, digits}
 use Rattle.octets.proofs.Bytes.{part_append, part_one, part_none, get_or_bytes_at}
 use Rattle.octets.proofs.Numbers.{digits_be, be_agree}
 use Rattle.elements.specs.declared.Cell.{Cell}
-use Rattle.elements.specs.Registers.{register_of}
-use Rattle.elements.specs.Cells.{cell_of, no_cell, register_cell}
+use Rattle.std.specs.Prelude.{Some}
+use Rattle.elements.specs.Cells.{cell_of, register_cell}
+use Rattle.elements.proofs.CellLaws.{cell_known}
 use Rattle.judging.specs.Judging.{same}
 use Rattle.judging.proofs.Elements.{is_same, not_same}
 
@@ -48,10 +49,5 @@ module _ (b : List ℕ) (x : ℕ) (o : List ℕ) (y : ℕ) where
           (λ j l. sym (get_or_bytes_at b x n j (omega arith)) ∙ ap (λ (z : List ℕ). get_or z j 0) w ∙ get_or_bytes_at o y n j (omega arith)) ∙ sym q)))
 
 -- ---- `cell_of`
-pub register_found : (id : ℕ) (x : Cell) → x ≡ register_cell id → (x.size ≡ 0 → ⊥) → x ≡ cell_of id
-unfolding register_cell
-register_found id x e n = go (eqb (register_of id).size 0) e
-  where
-    go : (t : Bool) → x ≡ cond t no_cell (cell_of id) → x ≡ cell_of id
-    go true q = absurd (n (ap (λ (c : Cell). c.size) q))
-    go false q = q
+pub register_found : (id : ℕ) (x : Cell) → Some x ≡ register_cell id → x ≡ cell_of id
+register_found id x e = cell_known id x e

@@ -6,13 +6,13 @@ use Prim.Native.Nat.{ℕ, ◌+◌, ◌≤◌}
 use lib.Dec.{eqb}
 use lib.ListN.{length}
 use borrow.Author.Tests.{le-ltb, ltb-false, eq-eqb, ne_eqb, eqb-true, eqb-false}
-use Rattle.gsb.specs.declared.Verdict.TheVariants.{Good}
 use Rattle.gsb.specs.Walk.{count_of, id_at, size_at, next_at}
 use Rattle.gsb.specs.First.{Leads}
 use Rattle.gsb.proofs.Judged.{passed}
 use Rattle.transfer.specs.Transfer.{value_at}
 use Rattle.judging.specs.Judging.{is_ours, our_value, same, is_repeated, compared}
 use Rattle.judging.proofs.Elements.{Element, and_both, same_is, is_same}
+use Rattle.std.proofs.Common.{Ok}
 
 -- what a good element is: inside, and a NOP or one of ours, the first with its ID
 pub record Ours (ours : List Element) (b : List ℕ) (at : ℕ) : Type 0 where
@@ -41,7 +41,7 @@ not_not true e = absurd (false≢true e)
 not_not false e = refl
 
 module _ (ours : List Element) (b : List ℕ) (at : ℕ) where
-  pub compared_good : (next : ℕ) → compared ours b at ≡ Good next → Alike ours b at × (next ≡ next_at b at)
+  pub compared_good : (next : ℕ) → compared ours b at ≡ Ok next → Alike ours b at × (next ≡ next_at b at)
   unfolding compared
   compared_good next e =
       let p = passed _ _ _ next e in
@@ -65,7 +65,7 @@ module _ (ours : List Element) (b : List ℕ) (at : ℕ) where
         cc t.1,
       )
 
-  pub good_compared : Alike ours b at → compared ours b at ≡ Good (next_at b at)
+  pub good_compared : Alike ours b at → compared ours b at ≡ Ok (next_at b at)
   unfolding compared
   good_compared a =
       let m : eqb (id_at b at) 0 ≡ false → Ours ours b at = λ z. a.mine (eqb-false _ _ z) in

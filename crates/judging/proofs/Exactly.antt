@@ -10,8 +10,6 @@ use lib.ListN.{length}
 use borrow.Author.Tests.{eq-eqb, ne_eqb, eqb-true, eqb-false}
 use Rattle.octets.proofs.Bytes.{length_bytes_at}
 use Rattle.answer.specs.declared.Fault.TheVariants.{None, Missing}
-use Rattle.gsb.specs.declared.Verdict.TheVariants.{Good}
-use Rattle.gsb.specs.declared.Walked.TheVariants.{Done}
 use Rattle.gsb.specs.Walk.{count_of, id_at, size_at, next_at, offset_at}
 use Rattle.gsb.specs.Lookup.{framed}
 use Rattle.gsb.specs.Join.{cut_of}
@@ -25,6 +23,7 @@ use Rattle.judging.specs.Promised.{IsOurs, HoldsOurs}
 use Rattle.judging.proofs.Elements.{Element, times_none, times_hit, times_miss, times_up, repeated_before, all_each, each_all}
 use Rattle.judging.proofs.Compared.{Ours, Alike, compared_good, good_compared, compared_leads}
 use Rattle.gsb.proofs.Shifted.{elements_none}
+use Rattle.std.proofs.Common.{Ok}
 
 -- ---- nothing is missing
 no_missing : (n : ℕ) → Missing n ≡ None → ⊥
@@ -53,16 +52,16 @@ missing_none (o ∷ ours) es f =
     ap (λ (t : Bool). cond t (Missing o.0) (lacking ours es)) (ne_eqb _ _ n) ∙ missing_none ours es (λ id m. f id (or_right (eqb o.0 id) (is_ours ours id) m))
 
 -- ---- walkable
-pub inside_exactly : (b : List ℕ) → (cut_of b ≡ Done) ↔ ((j : ℕ) → j < count_of b → next_at b (offset_at b j) ≤ length b)
+pub inside_exactly : (b : List ℕ) → (cut_of b ≡ Ok tt) ↔ ((j : ℕ) → j < count_of b → next_at b (offset_at b j) ≤ length b)
 inside_exactly b = (there, back)
   where
-    there : cut_of b ≡ Done → (j : ℕ) → j < count_of b → next_at b (offset_at b j) ≤ length b
+    there : cut_of b ≡ Ok tt → (j : ℕ) → j < count_of b → next_at b (offset_at b j) ≤ length b
     there e j h = (framed_inside b (offset_at b j) (offset_at b (j + 1)) (framed b (offset_at b j)) refl ((accepted_exactly (framed b) b (framed_leads b)).0 e j h)).1
 
-    back : ((j : ℕ) → j < count_of b → next_at b (offset_at b j) ≤ length b) → cut_of b ≡ Done
+    back : ((j : ℕ) → j < count_of b → next_at b (offset_at b j) ≤ length b) → cut_of b ≡ Ok tt
     back f =
         (accepted_exactly (framed b) b (framed_leads b)).1
-        (λ j h. let k = f j h in sym (framed_good b (offset_at b j) (size_at b (offset_at b j)) (omega arith) refl (omega arith)) ∙ ap Good (offset_next b j (offset_at b j) refl))
+        (λ j h. let k = f j h in sym (framed_good b (offset_at b j) (size_at b (offset_at b j)) (omega arith) refl (omega arith)) ∙ ap Ok (offset_next b j (offset_at b j) refl))
 
 not_both : (n : ℕ) → not (eqb n 0) ≡ false → n ≡ 0
 not_both n e = go (eqb n 0) refl e
@@ -79,14 +78,14 @@ module _ (ours : List Element) (b : List ℕ) (nonzero : is_ours ours 0 ≡ fals
   before_new : (j : ℕ) → j < count_of b → times (id_at b (offset_at b j)) (elements_in b j) ≡ 0 → is_repeated b (offset_at b j) (count_of b) ≡ false
   before_new j h e = repeated_before b j (count_of b) (omega arith) ∙ ap not (eq-eqb _ _ e)
 
-  alike : comparison ours b ≡ Done → (j : ℕ) → j < count_of b → Alike ours b (offset_at b j)
+  alike : comparison ours b ≡ Ok tt → (j : ℕ) → j < count_of b → Alike ours b (offset_at b j)
   alike e j h = (compared_good ours b (offset_at b j) (offset_at b (j + 1)) ((accepted_exactly (compared ours b) b (compared_leads ours b)).0 e j h)).0
 
   -- one of ours, whose ID is not 0, was seen at most once
   some : (id : ℕ) → is_ours ours id ≡ true → id ≡ 0 → ⊥
   some id m z = true≢false (sym m ∙ ap (is_ours ours) z ∙ nonzero)
 
-  at_most : comparison ours b ≡ Done → (id : ℕ) → is_ours ours id ≡ true → (n : ℕ) → n ≤ count_of b → times id (elements_in b n) ≤ 1
+  at_most : comparison ours b ≡ Ok tt → (id : ℕ) → is_ours ours id ≡ true → (n : ℕ) → n ≤ count_of b → times id (elements_in b n) ≤ 1
   at_most e id m zero h = omega (arith, ap (times id) (elements_none b), times_none id)
   at_most e id m (suc n) h = go (eqb (id_at b (offset_at b n)) id) refl (at_most e id m n (omega arith))
     where
@@ -98,7 +97,7 @@ module _ (ours : List Element) (b : List ℕ) (nonzero : is_ours ours 0 ≡ fals
           omega (arith, w, times_hit b id n q)
       go false p ih = omega (arith, times_miss b id n (eqb-false _ _ p), ih)
 
-  accepted_held : comparison ours b ≡ Done → lacking ours (elements_of b) ≡ None → HoldsOurs ours b
+  accepted_held : comparison ours b ≡ Ok tt → lacking ours (elements_of b) ≡ None → HoldsOurs ours b
   accepted_held e m = record {
     walkable = (inside_exactly b).1 (λ j h. (alike e j h).inside);
     once = λ id k. let n = none_missing ours (elements_of b) m id k in omega (arith, at_most e id k (count_of b) (omega arith), n);
@@ -121,12 +120,12 @@ module _ (ours : List Element) (b : List ℕ) (nonzero : is_ours ours 0 ≡ fals
             value = p.1;
           }
 
-  pub held_exactly : ((comparison ours b ≡ Done) × (lacking ours (elements_of b) ≡ None)) ↔ HoldsOurs ours b
+  pub held_exactly : ((comparison ours b ≡ Ok tt) × (lacking ours (elements_of b) ≡ None)) ↔ HoldsOurs ours b
   held_exactly = (
     (λ p. accepted_held p.0 p.1),
     (λ w. (
       (accepted_exactly (compared ours b) b (compared_leads ours b)).1
-          (λ j h. good_compared ours b (offset_at b j) (held_alike w j h) ∙ ap Good (offset_next b j (offset_at b j) refl)),
+          (λ j h. good_compared ours b (offset_at b j) (held_alike w j h) ∙ ap Ok (offset_next b j (offset_at b j) refl)),
       missing_none ours (elements_of b) (λ id m z. let o : times id (elements_of b) ≡ 1 = w.once id m in omega arith),
     )),
   )

@@ -11,17 +11,15 @@ use lib.ListN.{length, get_or, drop}
 use lib.Pow.{shl_exact, pow_mono}
 use lib.Seq.{drop-cons, drop-length}
 use borrow.Author.Tests.{eq-eqb, ne_eqb, eqb-true, eqb-false, ltb-true}
-use Rattle.octets.proofs.Bytes.{length_bytes_at, get_or_bytes_at}
 use Rattle.answer.specs.declared.Fault.{Fault}
-use Rattle.answer.specs.declared.Fault.TheVariants.{None, Missing}
+use Rattle.answer.specs.declared.Fault.TheVariants.{None as NoFault, Missing}
+use Rattle.std.specs.Prelude.{Some, None}
 use Rattle.gsb.specs.Walk.{id_at, offset_at}
 use Rattle.gsb.specs.Message.{elements_in}
 use Rattle.exits.specs.Exits.{valued}
 use Rattle.exits.proofs.Written.{both}
-use Rattle.judging.specs.declared.marks.Standing.{Standing}
-use Rattle.judging.specs.declared.marks.Standing.TheVariants.{NotNew, New}
 use Rattle.judging.specs.Judging.{is_ours, times, lacking}
-use Rattle.judging.specs.Private.{ids_in, marks, standing, standing_at, unmarked, above, row_good, GoodRow}
+use Rattle.judging.specs.Private.{marks, standing, unmarked, missing_in, above, row_good, GoodIds}
 use Rattle.judging.proofs.Elements.{Element, times_none, times_hit, times_miss}
 use Rattle.judging.proofs.Rows.{good_id, above_absent}
 
@@ -30,11 +28,11 @@ marks_cons : (id : ℕ) (ids : List ℕ) (es : List Element) → marks (id ∷ i
 unfolding marks
 marks_cons id ids es = refl
 
-standing_cons : (x : ℕ) (ids : List ℕ) (seen id j : ℕ) → standing (x ∷ ids) seen id j ≡ cond (eqb x id) (cond (eqb (seen % 2) 1) NotNew (New j)) (standing ids (seen / 2) id (j + 1))
+standing_cons : (x : ℕ) (ids : List ℕ) (seen id j : ℕ) → standing (x ∷ ids) seen id j ≡ cond (eqb x id) (cond (eqb (seen % 2) 1) None (Some j)) (standing ids (seen / 2) id (j + 1))
 unfolding standing
 standing_cons x ids seen id j = refl
 
-unmarked_cons : (id : ℕ) (ids : List ℕ) (seen : ℕ) → unmarked (id ∷ ids) seen ≡ cond (eqb (seen % 2) 1) (unmarked ids (seen / 2)) (Missing id)
+unmarked_cons : (id : ℕ) (ids : List ℕ) (seen : ℕ) → unmarked (id ∷ ids) seen ≡ cond (eqb (seen % 2) 1) (unmarked ids (seen / 2)) (Some id)
 unfolding unmarked
 unmarked_cons id ids seen = refl
 
@@ -90,7 +88,7 @@ module _ (base : ℕ) (s : List ℕ) where
   unfolding valued lacking
   lacking_cons x ids es = refl
 
-  lacking_nil : (es : List Element) → lacking (valued base s []) es ≡ None
+  lacking_nil : (es : List Element) → lacking (valued base s []) es ≡ NoFault
   unfolding valued lacking
   lacking_nil es = refl
 
@@ -98,38 +96,38 @@ module _ (base : ℕ) (s : List ℕ) where
   unfolding unmarked
   unmarked_nil seen = refl
 
-  standing_nil : (seen id j : ℕ) → standing [] seen id j ≡ NotNew
+  standing_nil : (seen id j : ℕ) → standing [] seen id j ≡ None
   unfolding standing
   standing_nil seen id j = refl
 
   -- ---- what marks say
   pub marked_standing : (ids : List ℕ) (es : List Element) (id j : ℕ)
-      → standing ids (marks ids es) id j ≡ cond (is_ours (valued base s ids) id && eqb (times id es) 0) (New (j + place_of ids id)) NotNew
-  marked_standing [] es id j = standing_nil (marks [] es) id j ∙ sym (ap (λ (t : Bool). cond (t && eqb (times id es) 0) (New (j + 0)) NotNew) (ours_nil id))
+      → standing ids (marks ids es) id j ≡ cond (is_ours (valued base s ids) id && eqb (times id es) 0) (Some (j + place_of ids id)) None
+  marked_standing [] es id j = standing_nil (marks [] es) id j ∙ sym (ap (λ (t : Bool). cond (t && eqb (times id es) 0) (Some (j + 0)) None) (ours_nil id))
   marked_standing (x ∷ ids) es id j =
       standing_cons x ids (marks (x ∷ ids) es) id j
-      ∙ ap₂ (λ (t : Bool) (m : ℕ). cond (eqb x id) (cond t NotNew (New j)) (standing ids m id (j + 1))) (marks_low x ids es) (marks_high x ids es)
+      ∙ ap₂ (λ (t : Bool) (m : ℕ). cond (eqb x id) (cond t None (Some j)) (standing ids m id (j + 1))) (marks_low x ids es) (marks_high x ids es)
       ∙ go (eqb x id) refl (marked_standing ids es id (j + 1))
-      ∙ ap (λ (t : Bool). cond (t && eqb (times id es) 0) (New (j + cond (eqb x id) 0 (suc (place_of ids id)))) NotNew) (sym (ours_cons x ids id))
+      ∙ ap (λ (t : Bool). cond (t && eqb (times id es) 0) (Some (j + cond (eqb x id) 0 (suc (place_of ids id)))) None) (sym (ours_cons x ids id))
     where
-      here : (t : Bool) → cond (not t) NotNew (New j) ≡ cond t (New (j + 0)) NotNew
-      here true = let z : j ≡ j + 0 = omega arith in ap New z
+      here : (t : Bool) → cond (not t) None (Some j) ≡ cond t (Some (j + 0)) None
+      here true = let z : j ≡ j + 0 = omega arith in ap Some z
       here false = refl
 
-      go : (t : Bool) → eqb x id ≡ t → standing ids (marks ids es) id (j + 1) ≡ cond (is_ours (valued base s ids) id && eqb (times id es) 0) (New (j + 1 + place_of ids id)) NotNew
-          → cond t (cond (not (eqb (times x es) 0)) NotNew (New j)) (standing ids (marks ids es) id (j + 1))
-          ≡ cond ((t || is_ours (valued base s ids) id) && eqb (times id es) 0) (New (j + cond t 0 (suc (place_of ids id)))) NotNew
-      go true p ih = ap (λ (n : ℕ). cond (not (eqb n 0)) NotNew (New j)) (ap (λ (i : ℕ). times i es) (eqb-true _ _ p)) ∙ here (eqb (times id es) 0)
-      go false p ih = let z : j + 1 + place_of ids id ≡ j + suc (place_of ids id) = omega arith in ih ∙ ap (λ (n : ℕ). cond (is_ours (valued base s ids) id && eqb (times id es) 0) (New n) NotNew) z
+      go : (t : Bool) → eqb x id ≡ t → standing ids (marks ids es) id (j + 1) ≡ cond (is_ours (valued base s ids) id && eqb (times id es) 0) (Some (j + 1 + place_of ids id)) None
+          → cond t (cond (not (eqb (times x es) 0)) None (Some j)) (standing ids (marks ids es) id (j + 1))
+          ≡ cond ((t || is_ours (valued base s ids) id) && eqb (times id es) 0) (Some (j + cond t 0 (suc (place_of ids id)))) None
+      go true p ih = ap (λ (n : ℕ). cond (not (eqb n 0)) None (Some j)) (ap (λ (i : ℕ). times i es) (eqb-true _ _ p)) ∙ here (eqb (times id es) 0)
+      go false p ih = let z : j + 1 + place_of ids id ≡ j + suc (place_of ids id) = omega arith in ih ∙ ap (λ (n : ℕ). cond (is_ours (valued base s ids) id && eqb (times id es) 0) (Some n) None) z
 
-  pub marked_lacking : (ids : List ℕ) (es : List Element) → unmarked ids (marks ids es) ≡ lacking (valued base s ids) es
-  marked_lacking [] es = unmarked_nil (marks [] es) ∙ sym (lacking_nil es)
+  pub marked_lacking : (ids : List ℕ) (es : List Element) → missing_in (unmarked ids (marks ids es)) ≡ lacking (valued base s ids) es
+  marked_lacking [] es = ap missing_in (unmarked_nil (marks [] es)) ∙ sym (lacking_nil es)
   marked_lacking (x ∷ ids) es =
-      unmarked_cons x ids (marks (x ∷ ids) es)
-      ∙ ap₂ (λ (t : Bool) (m : ℕ). cond t (unmarked ids m) (Missing x)) (marks_low x ids es) (marks_high x ids es)
+      ap missing_in (unmarked_cons x ids (marks (x ∷ ids) es)
+      ∙ ap₂ (λ (t : Bool) (m : ℕ). cond t (unmarked ids m) (Some x)) (marks_low x ids es) (marks_high x ids es))
       ∙ go (eqb (times x es) 0) ∙ ap (λ (f : Fault). cond (eqb (times x es) 0) (Missing x) f) (marked_lacking ids es) ∙ sym (lacking_cons x ids es)
     where
-      go : (t : Bool) → cond (not t) (unmarked ids (marks ids es)) (Missing x) ≡ cond t (Missing x) (unmarked ids (marks ids es))
+      go : (t : Bool) → missing_in (cond (not t) (unmarked ids (marks ids es)) (Some x)) ≡ cond t (Missing x) (missing_in (unmarked ids (marks ids es)))
       go true = refl
       go false = refl
 
@@ -189,82 +187,73 @@ above_at x (y ∷ ids) zero a h = ltb-true x y (both (ltb x y) (above x ids) a).
 above_at x (y ∷ ids) (suc j) a h = above_at x ids j (both (ltb x y) (above x ids) a).1 (omega arith)
 
 standing_place : (ids : List ℕ) → row_good ids ≡ true → (seen n k j : ℕ) → j < length ids → get_or ids j 0 ≡ n
-    → standing ids seen n k ≡ cond (eqb (seen / 2 ^ j % 2) 1) NotNew (New (k + j))
+    → standing ids seen n k ≡ cond (eqb (seen / 2 ^ j % 2) 1) None (Some (k + j))
 standing_place [] e seen n k j h q = absurd (omega arith)
 standing_place (x ∷ ids) e seen n k zero h q =
     let a : seen % 2 ≡ seen / 2 ^ 0 % 2 = omega arith in
     let b : k ≡ k + 0 = omega arith in
-    standing_cons x ids seen n k ∙ ap (λ (t : Bool). cond t (cond (eqb (seen % 2) 1) NotNew (New k)) (standing ids (seen / 2) n (k + 1))) (eq-eqb _ _ q)
-    ∙ ap₂ (λ (i m : ℕ). cond (eqb i 1) NotNew (New m)) a b
+    standing_cons x ids seen n k ∙ ap (λ (t : Bool). cond t (cond (eqb (seen % 2) 1) None (Some k)) (standing ids (seen / 2) n (k + 1))) (eq-eqb _ _ q)
+    ∙ ap₂ (λ (i m : ℕ). cond (eqb i 1) None (Some m)) a b
 standing_place (x ∷ ids) e seen n k (suc j) h q =
     let g = good_id x ids e in
     let l : x < get_or ids j 0 = above_at x ids j g.first (omega arith) in
     let d : x ≡ n → ⊥ = λ z. omega (arith, l, q) in
     let a : seen / 2 / 2 ^ j ≡ seen / 2 ^ suc j = div-div-eq-div-mul seen 2 (2 ^ j) ∙ ap (λ (i : ℕ). seen / i) (sym (pow-succ' 2 j)) in
     let b : k + 1 + j ≡ k + suc j = omega arith in
-    standing_cons x ids seen n k ∙ ap (λ (t : Bool). cond t (cond (eqb (seen % 2) 1) NotNew (New k)) (standing ids (seen / 2) n (k + 1))) (ne_eqb _ _ d)
+    standing_cons x ids seen n k ∙ ap (λ (t : Bool). cond t (cond (eqb (seen % 2) 1) None (Some k)) (standing ids (seen / 2) n (k + 1))) (ne_eqb _ _ d)
     ∙ standing_place ids g.rest (seen / 2) n (k + 1) j (omega arith) q
-    ∙ ap₂ (λ (i m : ℕ). cond (eqb (i % 2) 1) NotNew (New m)) a b
+    ∙ ap₂ (λ (i m : ℕ). cond (eqb (i % 2) 1) None (Some m)) a b
 
-pub at_seen : (seen j : ℕ) → seen / 2 ^ j % 2 ≡ 1 → NotNew ≡ standing_at seen j
-unfolding standing_at
-at_seen seen j e = sym (ap (λ (t : Bool). cond t NotNew (New j)) (eq-eqb _ _ e))
+-- an ID that is none of them is not new
+pub stand_none : (ids : List ℕ) (seen id j : ℕ) → ((k : ℕ) → k < length ids → get_or ids k 0 ≡ id → ⊥) → None ≡ standing ids seen id j
+stand_none [] seen id j f = sym (standing_nil 0 [] seen id j)
+stand_none (x ∷ ids) seen id j f =
+    sym (standing_cons x ids seen id j ∙ ap (λ (t : Bool). cond t (cond (eqb (seen % 2) 1) None (Some j)) (standing ids (seen / 2) id (j + 1))) (ne_eqb _ _ (f 0 (omega arith)))
+    ∙ sym (stand_none ids (seen / 2) id (j + 1) (λ k h. f (suc k) (omega arith))))
 
-pub at_new : (seen j : ℕ) → (seen / 2 ^ j % 2 ≡ 1 → ⊥) → New j ≡ standing_at seen j
-unfolding standing_at
-at_new seen j e = sym (ap (λ (t : Bool). cond t NotNew (New j)) (ne_eqb _ _ e))
+-- ---- the IDs that an exit returns
+module _ (ids : List ℕ) (g : GoodIds ids) where
+  -- the ID at place j
+  stand_at : (seen n j : ℕ) → j < length ids → get_or ids j 0 ≡ n → standing ids seen n 0 ≡ cond (eqb (seen / 2 ^ j % 2) 1) None (Some j)
+  stand_at seen n j h e = standing_place ids g.good seen n 0 j h e ∙ ap (λ (m : ℕ). cond (eqb (seen / 2 ^ j % 2) 1) None (Some m)) (omega arith)
 
--- ---- the loops over a row
-module _ (row : List ℕ) (g : GoodRow row) where
-  long : length (ids_in row) ≡ get_or row 1 0
-  long = length_bytes_at row 2 (get_or row 1 0) g.whole
+  pub stand_seen : (seen n j : ℕ) → j < length ids → get_or ids j 0 ≡ n → seen / 2 ^ j % 2 ≡ 1 → None ≡ standing ids seen n 0
+  stand_seen seen n j h e q = sym (stand_at seen n j h e ∙ ap (λ (t : Bool). cond t None (Some j)) (eq-eqb _ _ q))
 
-  pub ids_few : length (ids_in row) ≤ 10
-  ids_few = omega (arith, long, g.few)
+  pub stand_new : (seen n j : ℕ) → j < length ids → get_or ids j 0 ≡ n → (seen / 2 ^ j % 2 ≡ 1 → ⊥) → Some j ≡ standing ids seen n 0
+  stand_new seen n j h e q = sym (stand_at seen n j h e ∙ ap (λ (t : Bool). cond t None (Some j)) (ne_eqb _ _ q))
 
-  split : (j : ℕ) → j < get_or row 1 0 → drop j (ids_in row) ≡ get_or row (2 + j) 0 ∷ drop (j + 1) (ids_in row)
-  split j h =
-      drop-cons (ids_in row) j 0 (omega (arith, long))
-      ∙ ap₂ (λ (x : ℕ) (n : ℕ). x ∷ drop n (ids_in row)) (get_or_bytes_at row 2 (get_or row 1 0) j h) (sym (add-one j))
+pub ruleset by_place = (stand_none, stand_seen, stand_new)
 
-  past : (j : ℕ) → j ≤ get_or row 1 0 → get_or row 1 0 ≤ j → drop j (ids_in row) ≡ []
-  past j k h = let z : j ≡ length (ids_in row) = omega (arith, long) in ap (λ (n : ℕ). drop n (ids_in row)) z ∙ drop-length (ids_in row)
+-- ---- the loop over them
+module _ (ids : List ℕ) (seen j : ℕ) (e : unmarked ids seen ≡ unmarked (drop j ids) (seen / 2 ^ j)) where
+  next_mark : j < length ids → unmarked ids seen ≡ cond (eqb (seen / 2 ^ j % 2) 1) (unmarked (drop (j + 1) ids) (seen / 2 ^ j / 2)) (Some (get_or ids j 0))
+  next_mark h =
+      e ∙ ap (λ (x : List ℕ). unmarked x (seen / 2 ^ j)) (drop-cons ids j 0 h ∙ ap (λ (n : ℕ). get_or ids j 0 ∷ drop n ids) (sym (add-one j)))
+      ∙ unmarked_cons (get_or ids j 0) (drop (j + 1) ids) (seen / 2 ^ j)
 
-  module _ (seen id j left : ℕ) (e : standing (ids_in row) seen id 0 ≡ standing (drop j (ids_in row)) left id j) where
-    next : j < get_or row 1 0 → standing (ids_in row) seen id 0 ≡ cond (eqb (get_or row (2 + j) 0) id) (cond (eqb (left % 2) 1) NotNew (New j)) (standing (drop (j + 1) (ids_in row)) (left / 2) id (j + 1))
-    next h = e ∙ ap (λ (x : List ℕ). standing x left id j) (split j h) ∙ standing_cons (get_or row (2 + j) 0) (drop (j + 1) (ids_in row)) left id j
+  pub mark_hit : j < length ids → seen / 2 ^ j % 2 ≡ 0 → Some (get_or ids j 0) ≡ unmarked ids seen
+  mark_hit h r =
+      let d : seen / 2 ^ j % 2 ≡ 1 → ⊥ = λ z. omega (arith, r, z) in
+      sym (next_mark h ∙ ap (λ (t : Bool). cond t (unmarked (drop (j + 1) ids) (seen / 2 ^ j / 2)) (Some (get_or ids j 0))) (ne_eqb _ _ d))
 
-    pub stand_seen : j < get_or row 1 0 → get_or row (2 + j) 0 ≡ id → left % 2 ≡ 1 → NotNew ≡ standing (ids_in row) seen id 0
-    stand_seen h q r = sym (next h ∙ ap₂ (λ (t u : Bool). cond t (cond u NotNew (New j)) (standing (drop (j + 1) (ids_in row)) (left / 2) id (j + 1))) (eq-eqb _ _ q) (eq-eqb _ _ r))
+  pub mark_more : j < length ids → (seen / 2 ^ j % 2 ≡ 0 → ⊥) → unmarked ids seen ≡ unmarked (drop (j + 1) ids) (seen / 2 ^ (j + 1))
+  mark_more h r =
+      let d : seen / 2 ^ j % 2 ≡ 1 = omega (arith, r) in
+      let q : seen / 2 ^ j / 2 ≡ seen / 2 ^ (j + 1) = div-div-eq-div-mul seen (2 ^ j) 2 ∙ ap (λ (i : ℕ). seen / i) (sym (pow-suc' j)) in
+      next_mark h ∙ ap (λ (t : Bool). cond t (unmarked (drop (j + 1) ids) (seen / 2 ^ j / 2)) (Some (get_or ids j 0))) (eq-eqb _ _ d)
+      ∙ ap (unmarked (drop (j + 1) ids)) q
+    where
+      pow-suc' : (n : ℕ) → 2 ^ (n + 1) ≡ 2 ^ n * 2
+      pow-suc' n = ap (λ (k : ℕ). 2 ^ k) (add-one n) ∙ pow-suc 2 n
 
-    pub stand_new : j < get_or row 1 0 → get_or row (2 + j) 0 ≡ id → (left % 2 ≡ 1 → ⊥) → New j ≡ standing (ids_in row) seen id 0
-    stand_new h q r = sym (next h ∙ ap₂ (λ (t u : Bool). cond t (cond u NotNew (New j)) (standing (drop (j + 1) (ids_in row)) (left / 2) id (j + 1))) (eq-eqb _ _ q) (ne_eqb _ _ r))
+  pub mark_end : j ≤ length ids → length ids ≤ j → None ≡ unmarked ids seen
+  mark_end k h =
+      let z : j ≡ length ids = omega arith in
+      sym (e ∙ ap (λ (x : List ℕ). unmarked x (seen / 2 ^ j)) (ap (λ (n : ℕ). drop n ids) z ∙ drop-length ids) ∙ unmarked_nil 0 [] (seen / 2 ^ j))
 
-    pub stand_more : j < get_or row 1 0 → (get_or row (2 + j) 0 ≡ id → ⊥) → standing (ids_in row) seen id 0 ≡ standing (drop (j + 1) (ids_in row)) (left / 2) id (j + 1)
-    stand_more h q = next h ∙ ap (λ (t : Bool). cond t (cond (eqb (left % 2) 1) NotNew (New j)) (standing (drop (j + 1) (ids_in row)) (left / 2) id (j + 1))) (ne_eqb _ _ q)
-
-    pub stand_end : j ≤ get_or row 1 0 → get_or row 1 0 ≤ j → NotNew ≡ standing (ids_in row) seen id 0
-    stand_end k h = sym (e ∙ ap (λ (x : List ℕ). standing x left id j) (past j k h) ∙ standing_nil 0 [] left id j)
-
-  -- the ID at place j, without the loop
-  pub stand_at : (seen n j : ℕ) (r : Standing) → j < get_or row 1 0 → get_or row (2 + j) 0 ≡ n → r ≡ standing_at seen j → r ≡ standing (ids_in row) seen n 0
-  unfolding standing_at
-  stand_at seen n j r h e k =
-      let z : j ≡ 0 + j = omega arith in
-      k ∙ ap (λ (m : ℕ). cond (eqb (seen / 2 ^ j % 2) 1) NotNew (New m)) z ∙ sym (standing_place (ids_in row) g.good seen n 0 j (omega (arith, long)) (get_or_bytes_at row 2 (get_or row 1 0) j h ∙ e))
-
-  module _ (seen j left : ℕ) (e : unmarked (ids_in row) seen ≡ unmarked (drop j (ids_in row)) left) where
-    next_mark : j < get_or row 1 0 → unmarked (ids_in row) seen ≡ cond (eqb (left % 2) 1) (unmarked (drop (j + 1) (ids_in row)) (left / 2)) (Missing (get_or row (2 + j) 0))
-    next_mark h = e ∙ ap (λ (x : List ℕ). unmarked x left) (split j h) ∙ unmarked_cons (get_or row (2 + j) 0) (drop (j + 1) (ids_in row)) left
-
-    pub mark_hit : j < get_or row 1 0 → (left % 2 ≡ 1 → ⊥) → Missing (get_or row (2 + j) 0) ≡ unmarked (ids_in row) seen
-    mark_hit h r = sym (next_mark h ∙ ap (λ (t : Bool). cond t (unmarked (drop (j + 1) (ids_in row)) (left / 2)) (Missing (get_or row (2 + j) 0))) (ne_eqb _ _ r))
-
-    pub mark_more : j < get_or row 1 0 → left % 2 ≡ 1 → unmarked (ids_in row) seen ≡ unmarked (drop (j + 1) (ids_in row)) (left / 2)
-    mark_more h r = next_mark h ∙ ap (λ (t : Bool). cond t (unmarked (drop (j + 1) (ids_in row)) (left / 2)) (Missing (get_or row (2 + j) 0))) (eq-eqb _ _ r)
-
-    pub mark_end : j ≤ get_or row 1 0 → get_or row 1 0 ≤ j → None ≡ unmarked (ids_in row) seen
-    mark_end k h = sym (e ∙ ap (λ (x : List ℕ). unmarked x left) (past j k h) ∙ unmarked_nil 0 [] left)
+pub mark_begin : (ids : List ℕ) (seen : ℕ) → unmarked ids seen ≡ unmarked (drop 0 ids) (seen / 2 ^ 0)
+mark_begin ids seen = ap (unmarked ids) (omega arith)
 
 -- a mark as the code makes it
 pub one_shifted : (k : ℕ) → k < 64 → 1 * 2 ^ k % 2 ^ 64 ≡ 2 ^ k

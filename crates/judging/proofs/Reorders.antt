@@ -6,11 +6,11 @@ use Prim.Native.Nat.{ℕ, ◌+◌}
 use native.Mathlib.Omega.{arith}
 use lib.Dec.{eqb}
 use borrow.Author.Tests.{eq-eqb, ne_eqb, eqb-true}
-use Rattle.gsb.specs.declared.Walked.TheVariants.{Done}
 use Rattle.gsb.specs.Join.{cut_of}
 use Rattle.judging.specs.Judging.{is_ours, our_value, elements_of, times}
 use Rattle.judging.specs.Promised.{AllOf, IsOurs, HoldsOurs, Reordered}
 use Rattle.judging.proofs.Elements.{Element, times_none, times_append, all_append, all_left, all_right, all_map}
+use Rattle.std.proofs.Common.{Ok}
 
 -- ---- lists without an ID twice and without ID 0
 abbrev pub Distinct : List Element → Type 0
@@ -99,7 +99,7 @@ unfolding Reordered
 reordered_self [] = tt
 reordered_self (e ∷ es) = ([], es, refl, reordered_self es)
 
-pub reordered_held : (ours : List Element) → Distinct ours → (b : List ℕ) → cut_of b ≡ Done → Reordered ours (elements_of b) → HoldsOurs ours b
+pub reordered_held : (ours : List Element) → Distinct ours → (b : List ℕ) → cut_of b ≡ Ok tt → Reordered ours (elements_of b) → HoldsOurs ours b
 reordered_held ours d b w s = record {
   walkable = w;
   once = λ id m. reordered_times ours (elements_of b) s id (λ z. true≢false (sym m ∙ ap (is_ours ours) z ∙ distinct_nonzero ours d)) ∙ there_once ours d id m;

@@ -1,5 +1,5 @@
 -- 02, L10: "Judge a vendor's output buffer. A vendor's L0 may put elements in its own order and add NOPs." An element is its ID and its value.
-use Rattle.std.specs.Prelude.{ℕ, zero, suc, ◌+◌, Bool, true, false, not, ◌&&◌, ◌||◌, cond, List, [], ◌∷◌, ◌++◌, eqb, ltb, length}
+use Rattle.std.specs.Prelude.{ℕ, zero, suc, ◌+◌, Bool, true, false, not, ◌&&◌, ◌||◌, cond, List, [], ◌∷◌, ◌++◌, eqb, ltb, length, Ok, Err}
 use Rattle.answer.specs.declared.Answer.{Answer}
 use Rattle.answer.specs.declared.Bad.TheVariants.{Id, Size, Value}
 use Rattle.answer.specs.declared.Call.TheVariants.{JudgeOutput}
@@ -8,11 +8,7 @@ use Rattle.answer.specs.Answer.{told}
 use Rattle.answer.specs.declared.Fault.{Fault}
 use Rattle.answer.specs.declared.Fault.TheVariants.{None, Length, Element, Exit, Taken, Missing}
 use Rattle.answer.specs.Refusals.{first_of}
-use Rattle.gsb.specs.declared.Verdict.{Verdict}
-use Rattle.gsb.specs.declared.Verdict.TheVariants.{Good, Faulty}
-use Rattle.gsb.specs.declared.Walked.{Walked}
-use Rattle.gsb.specs.declared.Walked.TheVariants.{Done, Stopped}
-use Rattle.gsb.specs.Walk.{count_of, id_at, size_at, next_at, offset_at, bad_length, walk}
+use Rattle.gsb.specs.Walk.{count_of, id_at, size_at, next_at, offset_at, bad_length, walk, Verdict, Walked}
 use Rattle.gsb.specs.Message.{elements_in}
 use Rattle.store.specs.declared.Layout.{Layout}
 use Rattle.transfer.specs.Transfer.{value_at}
@@ -58,14 +54,14 @@ is_repeated b at (suc n) = (ltb (offset_at b n) at && eqb (id_at b (offset_at b 
 -- guest's list": both lists have every element of every exit (`ExitsListed`), so that an ID that is unlisted by either is not of this exit.
 unfoldable pub compared : List (ℕ × List ℕ) → List ℕ → ℕ → Verdict
 compared ours b at =
-    first_of Faulty
+    first_of Err
     ((ltb (length b) (at + 4), Size)
     ∷ (not (eqb (id_at b at) 0) && not (is_ours ours (id_at b at) && not (is_repeated b at (count_of b))), Id)
     ∷ (not (eqb (id_at b at) 0) && not (eqb (size_at b at) (length (our_value ours (id_at b at)))), Size)
     ∷ (ltb (length b) (next_at b at), Size)
     ∷ (not (eqb (id_at b at) 0) && not (same (value_at b at) (our_value ours (id_at b at))), Value)
     ∷ [])
-    (Good (next_at b at))
+    (Ok (next_at b at))
 
 -- "at the first bad element": 01's walk
 abbrev pub comparison : List (ℕ × List ℕ) → List ℕ → Walked
@@ -78,8 +74,8 @@ lacking (e ∷ ours) es = cond (eqb (times e.0 es) 0) (Missing e.0) (lacking our
 
 -- what the walk stopped at; where it did not, what is missing
 unfoldable pub found : Walked → Fault → Fault
-found Done lack = lack
-found (Stopped bad place) lack = Element bad place
+found (Ok _) lack = lack
+found (Err stop) lack = Element stop.bad stop.place
 
 -- "Refusals: 1, 3, 4, 16, 5, 13"
 abbrev pub earlier_tests : Layout → List ℕ → ℕ → ℕ → ℕ → List ℕ → List (Bool × Fault)

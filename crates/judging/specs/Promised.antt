@@ -1,10 +1,9 @@
 -- 02, L10: words of what is promised of a judged output.
-use Rattle.std.specs.Prelude.{ℕ, ◌≡◌, ◌≢◌, Bool, true, ◌&&◌, List, [], ◌∷◌, ◌++◌}
+use Rattle.std.specs.Prelude.{ℕ, ◌≡◌, ◌≢◌, Bool, true, ◌&&◌, List, [], ◌∷◌, ◌++◌, Ok}
 use Rattle.elements.specs.declared.Offer.{Offer}
 use Rattle.elements.specs.Table.{kind_of}
 use Rattle.elements.specs.Later.{offers, is_thread}
 use Rattle.elements.specs.Right.{on_entry}
-use Rattle.gsb.specs.declared.Walked.TheVariants.{Done}
 use Rattle.gsb.specs.Join.{cut_of}
 use Rattle.exits.specs.Exits.{exits}
 use Rattle.judging.specs.Judging.{is_ours, our_value, elements_of, times}
@@ -19,7 +18,7 @@ IsOurs ours e = (is_ours ours e.0 ≡ true) × (e.1 ≡ our_value ours e.0)
 
 -- "accept exactly if the buffer is walkable, holds each element of that exit once with our value, and nothing else but NOPs"
 pub record HoldsOurs (ours : List (ℕ × List ℕ)) (b : List ℕ) : Type 0 where
-  pub walkable : cut_of b ≡ Done
+  pub walkable : cut_of b ≡ Ok tt
   pub once : (id : ℕ) → is_ours ours id ≡ true → times id (elements_of b) ≡ 1
   pub only : AllOf (λ e. e.0 ≢ 0 → IsOurs ours e) (elements_of b)
 

@@ -6,136 +6,112 @@ mod marks;
 mod values;
 
 ghost use Rattle.std.specs.Prelude.{◌≡◌, ◌+◌, ◌≤◌, length};
-ghost use Rattle.answer.specs.declared.Fault.TheVariants.{Element};
 ghost use Rattle.gsb.specs.Message.{elements_in};
 ghost use Rattle.store.specs.Layout.{layout_of, slot_bytes};
 ghost use Rattle.exits.specs.Exits.{valued};
-ghost use Rattle.judging.specs.declared.Step.TheVariants.{Stop};
 ghost use Rattle.judging.specs.Judging.{compared, judge_output};
-ghost use Rattle.judging.specs.Private.{ids_in, marks, GoodRow, Reached, stepped, stopped, finding, judged_at};
+ghost use Rattle.judging.specs.Private.{marks, GoodIds, Reached, stepped, fault_in, finding, judged_at};
 
-use admission::{Target, target_of};
-use answer::{Answer, Bad, Fault, Place, refusal};
-use exits::{row_at, row_of};
+use admission::target_of;
+use answer::{Answer, Bad, Fault, Place, refusal, success};
+use exits::returned;
 use gsb::bad_length;
-use marks::{Standing, first_unmarked, standing_of};
+use marks::{first_unmarked, new_place};
 use octets::{get16, get32};
 use values::{cell_of, same_value};
 
-// Past an element: where the next starts, and the marks with its own; or the fault with its place.
-#[derive(Clone, Copy)]
-pub enum Step {
-    Next(usize, u64),
-    Stop(Fault),
-}
-
-fn stop(bad: Bad, index: usize, offset: usize) -> Step
-    ensures { result ≡ Stop (Element bad (record { index = index; offset = offset })) }
-{
-    Step::Stop(Fault::Element(bad, Place { index, offset }))
-}
-
-// Element i, at `at`, of which `seen` marks those before it: header, ID, size, end and value, in this order.
+// Element i, at `at`, of which `seen` marks those before it: header, ID, size, end and value, in this order. Gives where the next starts,
+// and the marks with its own.
 fn compare(
     store: &[u8],
     base: usize,
-    row: [u16; 12],
+    ids: &[u16],
     seen: u64,
     b: &[u8],
     i: usize,
     at: usize,
-) -> Step
+) -> Result<(usize, u64), Fault>
     requires slot_bytes_in_bounds { base + slot_bytes ≤ length store.now }
-    requires good_row { GoodRow row }
-    requires reached { Reached row b.now i at seen }
-    ensures { result ≡ stepped (compared (valued base store.now (ids_in row)) b.now at) (marks (ids_in row) (elements_in b.now (i + 1))) i at }
+    requires good_ids { GoodIds ids.now }
+    requires reached { Reached ids.now b.now i at seen }
+    ensures { result ≡ stepped (compared (valued base store.now ids.now) b.now at) (marks ids.now (elements_in b.now (i + 1))) i at }
 {
+    let place = Place {
+        index: i,
+        offset: at,
+    };
     if b.len() - at < 4 {
-        return stop(Bad::Size, i, at);
+        return Err(Fault::Element(Bad::Size, place));
     }
     let id = get16(b, at);
     let size = get16(b, at + 2) as usize;
     if id == 0 {
         if b.len() - at - 4 < size {
-            return stop(Bad::Size, i, at);
+            return Err(Fault::Element(Bad::Size, place));
         }
-        return Step::Next(at + 4 + size, seen);
+        return Ok((at + 4 + size, seen));
     }
-    let Standing::New(place) = standing_of(row, seen, id) else {
-        return stop(Bad::Id, i, at);
+    let Some(new) = new_place(ids, seen, id) else {
+        return Err(Fault::Element(Bad::Id, place));
     };
     let cell = cell_of(id);
     if cell.size != size {
-        return stop(Bad::Size, i, at);
+        return Err(Fault::Element(Bad::Size, place));
     }
     if b.len() - at - 4 < size {
-        return stop(Bad::Size, i, at);
+        return Err(Fault::Element(Bad::Size, place));
     }
     if !same_value(b, at + 4, store, base + cell.position, size) {
-        return stop(Bad::Value, i, at);
+        return Err(Fault::Element(Bad::Value, place));
     }
-    Step::Next(at + 4 + size, seen + (1u64 << place))
-}
-
-// What a step that stopped tells.
-fn fault_of(step: Step) -> Fault
-    ensures { result ≡ stopped step }
-{
-    match step {
-        Step::Next(_, _) => Fault::None,
-        Step::Stop(fault) => fault,
-    }
+    Ok((at + 4 + size, seen + (1u64 << new)))
 }
 
 // The counted elements, to the first bad one; then 20. The count is never trusted.
-fn judge_elements(store: &[u8], base: usize, row: [u16; 12], b: &[u8]) -> Fault
+fn judge_elements(store: &[u8], base: usize, ids: &[u16], b: &[u8]) -> Result<(), Fault>
     requires slot_bytes_in_bounds { base + slot_bytes ≤ length store.now }
-    requires good_row { GoodRow row }
+    requires good_ids { GoodIds ids.now }
     requires in_bounds { 4 ≤ length b.now }
-    ensures { result ≡ finding (valued base store.now (ids_in row)) b.now }
+    ensures { fault_in result ≡ finding (valued base store.now ids.now) b.now }
 {
     let count = get32(b, 0) as usize;
     let mut at = 4;
-    let mut i = 0;
     let mut seen = 0;
-    let end = 'walk: loop {
-        if count <= i {
-            break 'walk first_unmarked(row, seen);
-        }
-        let step = compare(store, base, row, seen, b, i, at);
-        let Step::Next(next, marked) = step else {
-            break 'walk fault_of(step);
-        };
+    for i in 0..count {
+        let (next, marked) = compare(store, base, ids, seen, b, i, at)?;
         at = next;
         seen = marked;
-        i += 1;
-    };
-    end
+    }
+    match first_unmarked(ids, seen) {
+        Some(id) => Err(Fault::Missing(u64::from(id))),
+        None => Ok(()),
+    }
 }
 
 // 5 and 13, then the elements.
-fn judge_at(store: &[u8], base: usize, exit: u64, b: &[u8]) -> Fault
+fn judge_at(store: &[u8], base: usize, exit: u64, b: &[u8]) -> Result<(), Fault>
     requires { base + slot_bytes ≤ length store.now }
-    ensures { result ≡ judged_at base store.now exit b.now }
+    ensures { fault_in result ≡ judged_at base store.now exit b.now }
 {
     if bad_length(b) {
-        return Fault::Length;
+        return Err(Fault::Length);
     }
-    let i = row_of(exit);
-    if 7 <= i {
-        return Fault::Exit;
-    }
-    let row = row_at(i);
-    judge_elements(store, base, row, b)
+    let Some(ids) = returned(exit) else {
+        return Err(Fault::Exit);
+    };
+    judge_elements(store, base, ids, b)
 }
 
 // A vendor's output of a run that left with this exit reason, against the store that our run left. Nothing is written.
 pub fn judge_output(store: &[u8], guest: u64, vcpu: u64, exit_reason: u64, buffer: &[u8]) -> Answer
     ensures { result ≡ judge_output (layout_of store.now) store.now guest vcpu exit_reason buffer.now }
 {
-    let target = target_of(store, 0, 0, false, guest as usize, vcpu as usize);
-    match target {
-        Target::Refused(fault) => refusal(fault),
-        Target::At(base) => refusal(judge_at(store, base, exit_reason, buffer)),
+    let base = match target_of(store, 0, 0, false, guest as usize, vcpu as usize) {
+        Ok(base) => base,
+        Err(fault) => return refusal(fault),
+    };
+    match judge_at(store, base, exit_reason, buffer) {
+        Ok(()) => success(0),
+        Err(fault) => refusal(fault),
     }
 }

@@ -1,4 +1,5 @@
 -- The answers of the calls, in the form of their needs: each takes a call's refusals apart as far as the code came. Assumes nothing.
+use Rattle.std.specs.Prelude.{Ok, Err}
 use Rattle.std.proofs.Common.{◌≡◌, ℕ, ◌+◌, ◌%◌, ◌^◌, Bool, true, false, cond, not, ◌&&◌, eqb, List, [], length, sym, refl, ap, ◌∙◌, ap₂, eq-eqb, ne_eqb}
 use borrow.Author.Tests.{not-false}
 use Rattle.octets.specs.Bytes.{be, put, zeros}
@@ -13,9 +14,7 @@ use Rattle.store.specs.Layout.{small, large, guest_at}
 use Rattle.store.specs.Header.{header, outside, offered, capabilities_of, any_live, live}
 use Rattle.store.specs.Store.{well_formed, fresh, put_capabilities}
 use Rattle.store.specs.Conversion.{converted}
-use Rattle.admission.specs.declared.Admission.{Admission}
-use Rattle.admission.specs.declared.Admission.TheVariants.{Admitted, Refused}
-use Rattle.admission.specs.Refusals.{Outcome, success, refusal, accept, refuse, decide, admission}
+use Rattle.admission.specs.Refusals.{Admission, Outcome, success, refusal, accept, refuse, decide, admission}
 use Rattle.l0.specs.Calls.{fresh_store, get_capabilities, in_use, set_capabilities, offset_of, rounded_up, guest_clock, convert}
 use Rattle.admission.proofs.FirstTests.{refused, past, admitted}
 use Rattle.guests.proofs.Answers.{left}
@@ -49,33 +48,33 @@ module _ (l m : Layout) (e : l ≡ m) (s : List ℕ) (r : Answer) where
       ap₂ left h z ∙ sym (simp (eq-eqb _ _ k))
 
 -- ---- get and set capabilities
-module _ (l : Layout) (s : List ℕ) (flags : ℕ) (a : Admission) (q : a ≡ admission l s 0 flags) (r : Answer) where
-  pub get_refused : (f : Fault) → a ≡ Refused f → r ≡ refusal f → left r s ≡ get_capabilities l s flags
+module _ (l : Layout) (s : List ℕ) (flags : ℕ) (a : Admission) (q : a ≡ admission l s 0 flags) where
+  pub get_refused : (r : Answer) (f : Fault) → a ≡ Err f → r ≡ refusal f → left r s ≡ get_capabilities l s flags
   unfolding get_capabilities decide
-  get_refused f h i = ap (λ (x : Answer). left x s) i ∙ sym (refused l s 0 flags (refuse s []) (accept offered s) a f q h)
+  get_refused r f h i = ap (λ (x : Answer). left x s) i ∙ sym (refused l s 0 flags (refuse s []) (accept offered s) a f q h)
 
-  pub get_told : a ≡ Admitted → r ≡ success offered → left r s ≡ get_capabilities l s flags
+  pub get_told : (r : Answer) → a ≡ Ok tt → r ≡ success offered → left r s ≡ get_capabilities l s flags
   unfolding get_capabilities decide
-  get_told h i = ap (λ (x : Answer). left x s) i ∙ sym (admitted l s 0 flags (refuse s []) (accept offered s) (past l s 0 flags a q h))
+  get_told r h i = ap (λ (x : Answer). left x s) i ∙ sym (admitted l s 0 flags (refuse s []) (accept offered s) (past l s 0 flags a q h))
 
   module _ (bitmap : ℕ) where
     rest : Outcome
     rest = cond (not (eqb (outside offered bitmap) 0)) (refuse s [] Capability) (cond (in_use l s bitmap) (refuse s [] InUse) (accept 0 (put_capabilities s bitmap)))
 
-    pub set_refused : (f : Fault) → a ≡ Refused f → r ≡ refusal f → left r s ≡ set_capabilities l s flags bitmap
+    pub set_refused : (f : Fault) → a ≡ Err f → left (refusal f) s ≡ set_capabilities l s flags bitmap
     unfolding set_capabilities decide rest
-    set_refused f h i = ap (λ (x : Answer). left x s) i ∙ sym (refused l s 0 flags (refuse s []) rest a f q h)
+    set_refused f h = sym (refused l s 0 flags (refuse s []) rest a f q h)
 
-    module _ (h : a ≡ Admitted) (x : ℕ) (o : x ≡ outside offered bitmap) where
+    module _ (h : a ≡ Ok tt) (x : ℕ) (o : x ≡ outside offered bitmap) where
       set_past : set_capabilities l s flags bitmap ≡ rest
       unfolding set_capabilities decide rest
       set_past = admitted l s 0 flags (refuse s []) rest (past l s 0 flags a q h)
 
-      pub set_other : (x ≡ 0 → ⊥) → r ≡ refusal Capability → left r s ≡ set_capabilities l s flags bitmap
+      pub set_other : (x ≡ 0 → ⊥) → left (refusal Capability) s ≡ set_capabilities l s flags bitmap
       unfolding rest
-      set_other n i =
+      set_other n =
           let m : outside offered bitmap ≡ 0 → ⊥ = λ z. n (o ∙ z) in
-          ap (λ (x : Answer). left x s) i ∙ sym (set_past ∙ simp (ne_eqb _ _ m))
+          sym (set_past ∙ simp (ne_eqb _ _ m))
 
       module _ (z : x ≡ 0) (y : Bool) (u : y ≡ in_use l s bitmap) where
         set_offered : set_capabilities l s flags bitmap ≡ cond y (refuse s [] InUse) (accept 0 (put_capabilities s bitmap))
@@ -84,11 +83,11 @@ module _ (l : Layout) (s : List ℕ) (flags : ℕ) (a : Admission) (q : a ≡ ad
             set_past
             ∙ ap₂ (λ (b c : Bool). cond (not b) (refuse s [] Capability) (cond c (refuse s [] InUse) (accept 0 (put_capabilities s bitmap)))) (eq-eqb _ _ (sym o ∙ z)) (sym u)
 
-        pub set_in_use : y ≡ true → r ≡ refusal InUse → left r s ≡ set_capabilities l s flags bitmap
-        set_in_use v i = ap (λ (x : Answer). left x s) i ∙ sym (set_offered ∙ ap (λ (b : Bool). cond b (refuse s [] InUse) (accept 0 (put_capabilities s bitmap))) v)
+        pub set_in_use : y ≡ true → left (refusal InUse) s ≡ set_capabilities l s flags bitmap
+        set_in_use v = sym (set_offered ∙ ap (λ (b : Bool). cond b (refuse s [] InUse) (accept 0 (put_capabilities s bitmap))) v)
 
-        pub set_stored : (t : List ℕ) → y ≡ false → t ≡ put_capabilities s bitmap → r ≡ success 0 → left r t ≡ set_capabilities l s flags bitmap
-        set_stored t v k i = ap₂ left i k ∙ sym (set_offered ∙ ap (λ (b : Bool). cond b (refuse s [] InUse) (accept 0 (put_capabilities s bitmap))) v)
+        pub set_stored : (t : List ℕ) → y ≡ false → t ≡ put_capabilities s bitmap → left (success 0) t ≡ set_capabilities l s flags bitmap
+        set_stored t v k = ap (left (success 0)) k ∙ sym (set_offered ∙ ap (λ (b : Bool). cond b (refuse s [] InUse) (accept 0 (put_capabilities s bitmap))) v)
 
 -- whether a guest lives under another bitmap
 module _ (l : Layout) (s : List ℕ) (bitmap c : ℕ) (e : c ≡ capabilities_of (header l s)) where
@@ -99,42 +98,31 @@ module _ (l : Layout) (s : List ℕ) (bitmap c : ℕ) (e : c ≡ capabilities_of
   use_other x n h = h ∙ sym (ap (λ (b : Bool). any_live l (header l s) && not b) (ne_eqb _ _ (λ z. n (z ∙ sym e))) ∙ and_true (any_live l (header l s)))
 
 -- ---- the clock
-module _ (l : Layout) (s : List ℕ) (guest timebase : ℕ) (t : Bool) (q : t ≡ well_formed l s) (r : Answer) where
-  pub clock_store : not t ≡ true → r ≡ refusal Store → left r s ≡ guest_clock l s guest timebase
+module _ (l : Layout) (s : List ℕ) (guest timebase : ℕ) (t : Bool) (q : t ≡ well_formed l s) where
+  pub clock_store : not t ≡ true → left (refusal Store) s ≡ guest_clock l s guest timebase
   unfolding guest_clock decide
-  clock_store n i =
+  clock_store n =
       let m : not (well_formed l s) ≡ true = ap not (sym q) ∙ n in
-      ap (λ (x : Answer). left x s) i ∙ sym (simp m)
+      sym (simp m)
 
   module _ (n : not t ≡ false) (x : Bool) (o : x ≡ live l (header l s) guest) where
     clock_good : not (well_formed l s) ≡ false
     clock_good = ap not (sym q) ∙ n
 
-    pub clock_dead : not x ≡ true → r ≡ refusal Guest → left r s ≡ guest_clock l s guest timebase
+    pub clock_dead : not x ≡ true → left (refusal Guest) s ≡ guest_clock l s guest timebase
     unfolding guest_clock decide
-    clock_dead k i =
+    clock_dead k =
         let m : not (live l (header l s) guest) ≡ true = ap not (sym o) ∙ k in
-        ap (λ (x : Answer). left x s) i ∙ sym (simp (clock_good, m))
+        sym (simp (clock_good, m))
 
-    pub clock_told : (p b u c : ℕ) → not x ≡ false → p ≡ guest_at l guest → b ≡ be s (p + 4) 8 → u ≡ rounded_up b → c ≡ (timebase + u) % 2 ^ 64 → r ≡ success c
-        → left r s ≡ guest_clock l s guest timebase
+    pub clock_told : (p b u c : ℕ) → not x ≡ false → p ≡ guest_at l guest → b ≡ be s (p + 4) 8 → u ≡ rounded_up b → c ≡ (timebase + u) % 2 ^ 64
+        → left (success c) s ≡ guest_clock l s guest timebase
     unfolding guest_clock decide
-    clock_told p b u c k d f v g i =
+    clock_told p b u c k d f v g =
         let m : not (live l (header l s) guest) ≡ false = ap not (sym o) ∙ k in
         let z : b ≡ offset_of l s guest = f ∙ ap₂ (λ (x y : ℕ). be s (x + y) 8) d (sym tb_offset) in
-        ap (λ (x : Answer). left x s) (i ∙ ap success (g ∙ ap (λ (y : ℕ). (timebase + y) % 2 ^ 64) (v ∙ ap (λ (y : ℕ). rounded_up y) z)))
+        ap (λ (x : Answer). left x s) (ap success (g ∙ ap (λ (y : ℕ). (timebase + y) % 2 ^ 64) (v ∙ ap (λ (y : ℕ). rounded_up y) z)))
         ∙ sym (simp (clock_good, m))
-
--- ---- the layout that the store's length tells
-module _ (l m : Layout) (e : l ≡ m) (s : List ℕ) (o : Outcome) where
-  pub get_sized : (flags : ℕ) → o ≡ get_capabilities l s flags → o ≡ get_capabilities m s flags
-  get_sized flags q = q ∙ ap (λ (x : Layout). get_capabilities x s flags) e
-
-  pub set_sized : (flags bitmap : ℕ) → o ≡ set_capabilities l s flags bitmap → o ≡ set_capabilities m s flags bitmap
-  set_sized flags bitmap q = q ∙ ap (λ (x : Layout). set_capabilities x s flags bitmap) e
-
-  pub clock_sized : (guest timebase : ℕ) → o ≡ guest_clock l s guest timebase → o ≡ guest_clock m s guest timebase
-  clock_sized guest timebase q = q ∙ ap (λ (x : Layout). guest_clock x s guest timebase) e
 
 -- ---- the conversion
 module _ (l : Layout) (k : l ≡ small) (s t : List ℕ) (r : Answer) where

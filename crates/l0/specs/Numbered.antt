@@ -6,6 +6,8 @@ use Rattle.answer.specs.declared.Call.{Call as Name}
 use Rattle.answer.specs.declared.Fault.TheVariants.{Record}
 use Rattle.store.specs.declared.Layout.{Layout}
 use Rattle.admission.specs.Refusals.{Outcome, refuse}
+use Rattle.l0.specs.declared.numbered.Kind.{Kind}
+use Rattle.l0.specs.Kinds.{number_of}
 use Rattle.l0.specs.Calls.{Call, GetCapabilities, SetCapabilities, CreateGuest, CreateVcpu, GetState, SetState, RunVcpu, DeleteGuest, GuestClock, outcome}
 
 -- "kind .., flags (64), guest (64), vCPU, token or bitmap (64), exit reason (12), ..; then the two pieces of data", of which the second is the effect
@@ -52,6 +54,10 @@ kind_name kind =
     ∷ [])
     kind
     Name.FreshStore
+
+-- the name of a kind
+abbrev pub name_of : Kind → Name
+name_of kind = kind_name (number_of kind)
 
 -- what a call by its number leaves: its answer, the store and the two pieces that are lent to be written
 pub record Called : Type 0 where

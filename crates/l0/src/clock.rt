@@ -1,10 +1,11 @@
 // The clock that a guest sees: the L1's timebase and the guest's TB offset.
 ghost use Rattle.std.specs.Prelude.{◌≡◌, []};
+ghost use Rattle.answer.specs.Answer.{answer_of};
 ghost use Rattle.store.specs.Layout.{layout_of};
 ghost use Rattle.admission.specs.Refusals.{Outcome};
 ghost use Rattle.l0.specs.Calls.{rounded_up, guest_clock};
 
-use answer::{Answer, Fault, refusal, success};
+use answer::{Answer, Fault};
 use octets::get64;
 use store::{Layout, guest_at, is_live, layout_of, well_formed};
 
@@ -19,25 +20,23 @@ fn rounded_up(offset: u64) -> u64
     x - x % 0x100_0000
 }
 
-// The call in the layout l, which the store's length tells.
-fn guest_clock_with(store: &[u8], l: Layout, guest: u64, timebase: u64) -> Answer
-    requires { l ≡ layout_of store.now }
-    ensures { ◌≡◌ {A = Outcome} (record { answer = result; store = store.now; buffer = [] }) (guest_clock l store.now guest timebase) }
+fn try_guest_clock(store: &[u8], guest: u64, timebase: u64) -> Result<u64, Fault>
+    ensures { ◌≡◌ {A = Outcome} (record { answer = answer_of result; store = store.now; buffer = [] }) (guest_clock (layout_of store.now) store.now guest timebase) }
 {
+    let l = layout_of(store);
     if !well_formed(store, l) {
-        return refusal(Fault::Store);
+        return Err(Fault::Store);
     }
     let g = guest as usize;
     if !is_live(store, l, g) {
-        return refusal(Fault::Guest);
+        return Err(Fault::Guest);
     }
     let offset = get64(store, guest_at(l, g) + TB_OFFSET);
-    success(std::num::wrapping_add_u64(timebase, rounded_up(offset)))
+    Ok(std::num::wrapping_add_u64(timebase, rounded_up(offset)))
 }
 
 pub fn guest_clock(store: &[u8], guest: u64, timebase: u64) -> Answer
     ensures { ◌≡◌ {A = Outcome} (record { answer = result; store = store.now; buffer = [] }) (guest_clock (layout_of store.now) store.now guest timebase) }
 {
-    let l = layout_of(store);
-    guest_clock_with(store, l, guest, timebase)
+    Answer::from(try_guest_clock(store, guest, timebase))
 }

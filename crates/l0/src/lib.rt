@@ -10,4 +10,4 @@ mod numbered;
 pub use capabilities::{fresh_store, get_capabilities, set_capabilities};
 pub use clock::guest_clock;
 pub use conversion::convert;
-pub use numbered::{call, kind_name};
+pub use numbered::{Kind, call, kind_name};

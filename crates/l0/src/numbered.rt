@@ -1,13 +1,60 @@
 // A call by its number, as a call record of request L9 names it.
 ghost use Rattle.std.specs.Prelude.{◌≡◌};
 ghost use Rattle.store.specs.Layout.{layout_of};
-ghost use Rattle.l0.specs.Numbered.{Called, called, kind_name};
+ghost use Rattle.l0.specs.Numbered.{Called, called, kind_name, name_of};
+ghost use Rattle.l0.specs.Kinds.{kind_of};
 
 use crate::capabilities::{get_capabilities, set_capabilities};
 use answer::{Answer, Call, Fault, refusal};
 use guests::{create_guest, create_vcpu, delete_guest};
 use run::run_vcpu;
 use state::{get_state, set_state};
+
+// The calls that have a number.
+#[derive(Clone, Copy)]
+pub enum Kind {
+    GetCapabilities,
+    SetCapabilities,
+    CreateGuest,
+    CreateVcpu,
+    GetState,
+    SetState,
+    RunVcpu,
+    DeleteGuest,
+}
+
+impl Kind {
+    pub fn from_number(number: u64) -> Option<Kind>
+        ensures { result ≡ kind_of number }
+    {
+        match number {
+            1 => Some(Kind::GetCapabilities),
+            2 => Some(Kind::SetCapabilities),
+            3 => Some(Kind::CreateGuest),
+            4 => Some(Kind::CreateVcpu),
+            5 => Some(Kind::GetState),
+            6 => Some(Kind::SetState),
+            7 => Some(Kind::RunVcpu),
+            8 => Some(Kind::DeleteGuest),
+            _ => None,
+        }
+    }
+
+    fn name(self) -> Call
+        ensures { result ≡ name_of self }
+    {
+        match self {
+            Kind::GetCapabilities => Call::GetCapabilities,
+            Kind::SetCapabilities => Call::SetCapabilities,
+            Kind::CreateGuest => Call::CreateGuest,
+            Kind::CreateVcpu => Call::CreateVcpu,
+            Kind::GetState => Call::GetState,
+            Kind::SetState => Call::SetState,
+            Kind::RunVcpu => Call::RunVcpu,
+            Kind::DeleteGuest => Call::DeleteGuest,
+        }
+    }
+}
 
 // The third number is the vCPU, the token or the bitmap. What a kind has no use for is ignored.
 pub fn call(
@@ -23,14 +70,14 @@ pub fn call(
 ) -> Answer
     ensures { ◌≡◌ {A = Called} (record { answer = result; store = store.new; «data» = «data».new; output = output.new }) (called (layout_of store.old) store.old (record { kind = kind; flags = flags; guest = guest; number = number; exit = exit_reason; «data» = «data».old; effect = effect.now }) output.old) }
 {
-    match kind {
-        1 => get_capabilities(store, flags),
-        2 => set_capabilities(store, flags, number),
-        3 => create_guest(store, flags, number),
-        4 => create_vcpu(store, flags, guest, number),
-        5 => get_state(store, flags, guest, number, data),
-        6 => set_state(store, flags, guest, number, data),
-        7 => run_vcpu(
+    match Kind::from_number(kind) {
+        Some(Kind::GetCapabilities) => get_capabilities(store, flags),
+        Some(Kind::SetCapabilities) => set_capabilities(store, flags, number),
+        Some(Kind::CreateGuest) => create_guest(store, flags, number),
+        Some(Kind::CreateVcpu) => create_vcpu(store, flags, guest, number),
+        Some(Kind::GetState) => get_state(store, flags, guest, number, data),
+        Some(Kind::SetState) => set_state(store, flags, guest, number, data),
+        Some(Kind::RunVcpu) => run_vcpu(
             store,
             flags,
             guest,
@@ -40,8 +87,8 @@ pub fn call(
             effect,
             exit_reason,
         ),
-        8 => delete_guest(store, flags, guest),
-        _ => refusal(Fault::Record(0)),
+        Some(Kind::DeleteGuest) => delete_guest(store, flags, guest),
+        None => refusal(Fault::Record(0)),
     }
 }
 
@@ -49,15 +96,8 @@ pub fn call(
 pub fn kind_name(kind: u64) -> Call
     ensures { result ≡ kind_name kind }
 {
-    match kind {
-        1 => Call::GetCapabilities,
-        2 => Call::SetCapabilities,
-        3 => Call::CreateGuest,
-        4 => Call::CreateVcpu,
-        5 => Call::GetState,
-        6 => Call::SetState,
-        7 => Call::RunVcpu,
-        8 => Call::DeleteGuest,
-        _ => Call::FreshStore,
+    match Kind::from_number(kind) {
+        Some(kind) => kind.name(),
+        None => Call::FreshStore,
     }
 }

@@ -24,9 +24,7 @@ use Rattle.rules.specs.declared.Context.{Context}
 use Rattle.rules.specs.Rules.{permits, size_fits}
 use Rattle.rules.proofs.Rules.{value_run}
 use Rattle.rules.proofs.Lists.{permits_by}
-use Rattle.gsb.specs.declared.Verdict.TheVariants.{Good, Faulty}
-use Rattle.gsb.specs.declared.Walked.TheVariants.{Done, Stopped}
-use Rattle.gsb.specs.Walk.{offset_at, judged, first_bad}
+use Rattle.gsb.specs.Walk.{offset_at, judged, first_bad, stopped_at}
 use Rattle.octets.specs.Bytes.{bytes_at}
 use Rattle.gsb.specs.Message.{element_bytes, elements_bytes, message, Begins, nth_id, nth_value, Wire}
 use Rattle.gsb.proofs.Judged.{judged_id, judged_good}
@@ -42,12 +40,14 @@ use Rattle.store.proofs.Search.{both, no_bool, every_ext}
 use Rattle.l1.specs.declared.Mark.{Mark}
 use Rattle.l1.specs.Marks.{Cache, is_marked, valid, changed, allowed, is_input, mark_good, good_cache}
 use Rattle.l1.specs.Cache.{chosen, pending, Fit}
-use Rattle.l1.specs.Private.{is_changed, MarkFrom, lacked_from}
+use Rattle.std.specs.Prelude.{Option, None}
+use Rattle.l1.specs.Private.{is_changed, at_of, MarkFrom, lacked_from}
 use Rattle.l1.proofs.Cells.{allowed_as, named_fits, input_named, input_allowed}
 use Rattle.l1.proofs.Values.{number_small, input_by}
 use Rattle.l1.proofs.Pending.{reached, here, all, marked_here, chosen_none, chosen_turn, chosen_more, chosen_few, weigh_few}
 use Rattle.l1.proofs.Sent.{fit_wire, fit_at}
 use Rattle.l1.proofs.Returned.{valued_id}
+use Rattle.std.proofs.Common.{Ok, Err}
 
 -- ---- a list has all of these
 unfoldable pub offers_all : Offer → List ℕ → Bool
@@ -132,11 +132,11 @@ chosen_around p a h e =
     ∙ append_assoc (chosen p a) ((thread_element a).id ∷ []) (behind_chosen p (suc a) (169 - a))
 
 module _ (o : Offer) (m : List ℕ) where
-  module _ (x : Mark) (k : MarkFrom m 192 x) where
-    pub lack_start : 0 ≡ length (chosen (is_changed m) (reached x.at))
+  module _ (x : Option Mark) (k : MarkFrom m 192 x) where
+    pub lack_start : 0 ≡ length (chosen (is_changed m) (reached (at_of x)))
     lack_start = sym (ap length (chosen_none m x k))
 
-    pub lack_none : offers_all o (chosen (is_changed m) (reached x.at)) ≡ true
+    pub lack_none : offers_all o (chosen (is_changed m) (reached (at_of x))) ≡ true
     unfolding offers_all
     lack_none = ap (offers_all o) (chosen_none m x k)
 
@@ -156,10 +156,10 @@ module _ (o : Offer) (m : List ℕ) where
 
     module _ (low : 192 ≤ i) (high : i < 362) (e : i ≡ first (is_marked m) (384 - i) i) (x : Element) (t : x ≡ thread_element (i - 192)) where
       marked : is_changed m (i - 192) ≡ true
-      marked = marked_here m i (record { at = 0; left = 0 }) low high e
+      marked = marked_here m i None low high e
 
       at_number : reached i ≡ i - 192
-      at_number = here m i (record { at = 0; left = 0 }) low high e
+      at_number = here m i None low high e
 
       pub step_fits : offset + 4 + x.size < 2 ^ 64
       step_fits = omega (arith, weigh_few (is_changed m) (reached i) (omega arith), number_small (i - 192) (omega arith), ap (λ (y : Element). y.size) t)
@@ -178,16 +178,16 @@ module _ (o : Offer) (m : List ℕ) where
             ∙ lacked_here o (thread_element (i - 192)).id rest (0 + length (chosen p (reached i))) (4 + weigh (chosen p (reached i))) lost
             ∙ sym place_is)
 
-        module _ (n : not has ≡ false) (y : Mark) (k : MarkFrom m (i + 1) y) where
-          grown : chosen (is_changed m) (reached y.at) ≡ chosen (is_changed m) (reached i) ++ ((thread_element (i - 192)).id ∷ [])
+        module _ (n : not has ≡ false) (y : Option Mark) (k : MarkFrom m (i + 1) y) where
+          grown : chosen (is_changed m) (reached (at_of y)) ≡ chosen (is_changed m) (reached i) ++ ((thread_element (i - 192)).id ∷ [])
           grown =
               chosen_turn m i y low high e k ∙ chosen_more (is_changed m) (i - 192) marked
               ∙ ap (λ (a : ℕ). chosen (is_changed m) a ++ ((thread_element (i - 192)).id ∷ [])) (sym at_number)
 
-          pub lack_index : index + 1 ≡ length (chosen (is_changed m) (reached y.at))
+          pub lack_index : index + 1 ≡ length (chosen (is_changed m) (reached (at_of y)))
           lack_index = sym (ap length grown ∙ length-append (chosen (is_changed m) (reached i)) ((thread_element (i - 192)).id ∷ []) ∙ omega arith)
 
-          pub lack_turn : offers_all o (chosen (is_changed m) (reached y.at)) ≡ true
+          pub lack_turn : offers_all o (chosen (is_changed m) (reached (at_of y))) ≡ true
           unfolding offers_all
           lack_turn =
               ap (offers_all o) grown ∙ offers_append o (chosen (is_changed m) (reached i)) ((thread_element (i - 192)).id ∷ [])
@@ -231,21 +231,21 @@ module _ (k : Context) (u : k.usage ≡ RunInput) (es : List (ℕ × List ℕ)) 
     sized : size_fits (kind_of (nth_id es i)) (length (nth_value es i)) ≡ true
     sized = named_fits (nth_id es i) (input_named Full (nth_id es i) its.0) (length (nth_value es i)) ∙ eq-eqb _ _ its.1
 
-    has : offers k.offer (nth_id es i) ≡ true → judged k b (offset_at b i) ≡ Good (offset_at b (i + 1))
+    has : offers k.offer (nth_id es i) ≡ true → judged k b (offset_at b i) ≡ Ok (offset_at b (i + 1))
     has t =
         let p : permits k (nth_id es i) (kind_of (nth_id es i)) ≡ true = permits_as (nth_id es i) its.0 ∙ t in
         let n : offset_at b i + 4 + length (nth_value es i) ≡ offset_at b (i + 1) = ap (λ (x : ℕ). offset_at b i + 4 + x) (sym (message_size es b wire starts i h)) ∙ offset_next b i (offset_at b i) refl in
         sym (judged_good k b (offset_at b i) (nth_id es i) (length (nth_value es i)) (kind_of (nth_id es i)) (omega (arith, inside)) (sym (message_id es b wire starts i h)) (sym (message_size es b wire starts i h)) refl
         true (sym p) refl true (sym sized) refl (omega (arith, inside)) true (sym (value_run k (nth_id es i) b (offset_at b i + 4) u p)) refl)
-        ∙ ap Good n
+        ∙ ap Ok n
 
-    lacks : offers k.offer (nth_id es i) ≡ false → judged k b (offset_at b i) ≡ Faulty Id
+    lacks : offers k.offer (nth_id es i) ≡ false → judged k b (offset_at b i) ≡ Err Id
     lacks t =
         sym (judged_id k b (offset_at b i) (nth_id es i) (length (nth_value es i)) (kind_of (nth_id es i)) (omega (arith, inside)) (sym (message_id es b wire starts i h)) (sym (message_size es b wire starts i h)) refl
         false (sym (permits_as (nth_id es i) its.0 ∙ t)) refl)
 
   stops : (i : ℕ) → i < length es → ((j : ℕ) → j < i → offers k.offer (nth_id es j) ≡ true) → offers k.offer (nth_id es i) ≡ false
-      → first_bad k b ≡ Stopped Id (record { index = i; offset = offset_at b i })
+      → first_bad k b ≡ stopped_at Id (record { index = i; offset = offset_at b i })
   stops i h earlier lost =
       first_walk k b
       ∙ (refused_exactly (judged k b) b (judged_leads k b) Id (record { index = i; offset = offset_at b i })).1
@@ -253,13 +253,13 @@ module _ (k : Context) (u : k.usage ≡ RunInput) (es : List (ℕ × List ℕ)) 
 
 -- the first ID that is lacked is where the walk stops
 pub lacked_stops : (k : Context) → k.usage ≡ RunInput → (vs ids : List ℕ) → Fit Full (valued 0 vs ids) → length ids ≤ 170 → offers_all k.offer ids ≡ false
-    → first_bad k (message (valued 0 vs ids)) ≡ Stopped Id (lacked_from k.offer ids 0 4)
+    → first_bad k (message (valued 0 vs ids)) ≡ stopped_at Id (lacked_from k.offer ids 0 4)
 unfolding valued
 lacked_stops k u vs ids f few e =
     stops k u es f (omega (arith, length_valued 0 vs ids)) i within
     (λ j l. ap (offers o) (valued_id 0 vs ids j (omega (arith, within, length_valued 0 vs ids)) ∙ ap (λ (xs : List ℕ). get_or xs j 0) s.is ∙ get_or-append s.before (s.id ∷ s.after) 0 j l) ∙ offers_at o s.before s.have j l)
     (ap (offers o) (valued_id 0 vs ids i (omega (arith, within, length_valued 0 vs ids)) ∙ ap (λ (xs : List ℕ). get_or xs i 0) s.is ∙ get_or-append_seam s.before s.id s.after 0) ∙ s.lack)
-    ∙ ap (Stopped Id) (sym place)
+    ∙ ap (stopped_at Id) (sym place)
   where
     o : Offer
     o = k.offer
@@ -340,10 +340,10 @@ module _ (o : Offer) (c : Cache) (good : good_cache Full c ≡ true) where
       go false q = q
 
   -- a walk that ends is over elements that the list has
-  pub done_good : (k : Context) → k.usage ≡ RunInput → k.offer ≡ o → Fit Full (pending c) → first_bad k (message (pending c)) ≡ Done → good_cache o c ≡ true
+  pub done_good : (k : Context) → k.usage ≡ RunInput → k.offer ≡ o → Fit Full (pending c) → first_bad k (message (pending c)) ≡ Ok tt → good_cache o c ≡ true
   done_good k u p f d = go (offers_all o (chosen (changed c) 170)) refl
     where
-      not_done : {bad : Bad} {place : Place} → Done ≡ Stopped bad place → ⊥
+      not_done : {bad : Bad} {place : Place} → Ok tt ≡ stopped_at bad place → ⊥
       not_done e = let z : ◌≡◌ {A = ℕ} 0 1 = cc in omega arith
 
       go : (b : Bool) → offers_all o (chosen (changed c) 170) ≡ b → good_cache o c ≡ true

@@ -9,6 +9,5 @@ pub mod Running
 pub mod Marking
 pub mod Masks
 pub mod Words
-mod Clearing
 pub mod Sizes
 pub mod Lacking

@@ -23,7 +23,7 @@ use Rattle.store.specs.Layout.{slot_bytes}
 use Rattle.store.specs.Search.{every}
 use Rattle.store.proofs.Search.{both, every_ext}
 use Rattle.l1.specs.Marks.{Cache, valid, changed, allowed, is_input, is_readable, mark_good, good_cache}
-use Rattle.l1.specs.Private.{input_words}
+use Rattle.l1.specs.Private.{good_marks, input_words}
 use Rattle.l1.proofs.Masks.{mask, mask_and, mask_or, mask_not, mask_none, every_append, valid_mask, changed_mask}
 
 pub one_shifted : (k : ℕ) → k < 64 → 1 * 2 ^ k % 2 ^ 64 ≡ 2 ^ k
@@ -163,28 +163,30 @@ module _ (o : Offer) (m : List ℕ) where
       words_third q z ez = ez ∙ beyond true (not-false y q)
 
 -- ---- and the lengths
-module _ (o : Offer) (c : Cache) where
-  good_as : (a b : Bool) → eqb (length c.values) slot_bytes ≡ a → eqb (length c.marks) 6 ≡ b → good_cache o c ≡ a && (b && every (mark_good o c) 192 0)
+module _ (o : Offer) (vs ms : List ℕ) where
+  -- a mark is good by the words alone
+  mark_same : (e : ℕ) → mark_good o (record { values = vs; marks = ms }) e ≡ mark_good o (record { values = []; marks = ms }) e
+  unfolding mark_good
+  mark_same e = refl
+
+  good_as : (a b : Bool) → eqb (length vs) slot_bytes ≡ a → eqb (length ms) 6 ≡ b → good_cache o (record { values = vs; marks = ms }) ≡ a && (b && good_marks o ms)
   unfolding good_cache
-  good_as a b p q = ap₂ (λ (x y : Bool). x && (y && every (mark_good o c) 192 0)) p q
+  good_as a b p q =
+      ap₂ (λ (x y : Bool). x && (y && every (mark_good o (record { values = vs; marks = ms })) 192 0)) p q
+      ∙ ap (λ (t : Bool). a && (b && t)) (every_ext (mark_good o (record { values = vs; marks = ms })) (mark_good o (record { values = []; marks = ms })) 192 0 (λ e a b. mark_same e))
 
-  pub good_values : (length c.values ≡ slot_bytes → ⊥) → false ≡ good_cache o c
-  good_values n = sym (good_as false (eqb (length c.marks) 6) (ne_eqb _ _ n) refl)
+  pub short_values : (length vs ≡ slot_bytes → ⊥) → good_cache o (record { values = vs; marks = ms }) ≡ false
+  short_values n = good_as false (eqb (length ms) 6) (ne_eqb _ _ n) refl
 
-  module _ (hv : length c.values ≡ slot_bytes) where
-    pub good_marks : (length c.marks ≡ 6 → ⊥) → false ≡ good_cache o c
-    good_marks n = sym (good_as true false (eq-eqb _ _ hv) (ne_eqb _ _ n))
+  pub short_marks : (length ms ≡ 6 → ⊥) → good_cache o (record { values = vs; marks = ms }) ≡ false
+  short_marks n = good_as (eqb (length vs) slot_bytes) false refl (ne_eqb _ _ n) ∙ and_none (eqb (length vs) slot_bytes)
+    where
+      and_none : (t : Bool) → t && false ≡ false
+      and_none true = refl
+      and_none false = refl
 
-    -- a mark is good by the words alone
-    mark_same : (e : ℕ) → mark_good o (record { values = []; marks = c.marks }) e ≡ mark_good o c e
-    unfolding mark_good
-    mark_same e = refl
-
-    pub good_words : length c.marks ≡ 6 → (p : Offer) → o ≡ p → (x : Bool) → x ≡ every (mark_good p (record { values = []; marks = c.marks })) 192 0 → x ≡ good_cache o c
-    good_words hm p e x ex =
-        ex ∙ ap (λ (q : Offer). every (mark_good q (record { values = []; marks = c.marks })) 192 0) (sym e)
-        ∙ every_ext (mark_good o (record { values = []; marks = c.marks })) (mark_good o c) 192 0 (λ e a b. mark_same e)
-        ∙ sym (good_as true true (eq-eqb _ _ hv) (eq-eqb _ _ hm))
+  pub good_words : length vs ≡ 1820 → length ms ≡ 6 → good_cache o (record { values = vs; marks = ms }) ≡ good_marks o ms
+  good_words l k = good_as true true (eq-eqb _ _ l) (eq-eqb _ _ k)
 
 -- ---- what it says of the lengths
 module _ (o : Offer) (vs ms : List ℕ) (x : Bool) (e : x ≡ good_cache o (record { values = vs; marks = ms })) (n : not x ≡ false) where

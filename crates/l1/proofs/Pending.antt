@@ -20,12 +20,13 @@ use Rattle.exits.specs.Exits.{weigh, row_bytes, valued}
 use Rattle.exits.proofs.Written.{weigh_append, valued_append, length_valued}
 use Rattle.store.specs.Layout.{slot_bytes}
 use Rattle.store.specs.Search.{every, first, tally}
-use Rattle.store.proofs.Search.{both, every_at, first_bounds, first_found, found_first, first_none}
+use Rattle.store.proofs.Search.{no_bool, both, every_at, first_bounds, first_found, found_first, first_none}
 use Rattle.l1.specs.declared.Mark.{Mark}
 use Rattle.l1.specs.Marks.{Cache, is_marked, valid, changed, is_input, mark_good, good_cache}
 use Rattle.l1.specs.Cache.{chosen, pending}
-use Rattle.l1.specs.Private.{is_changed, behind, MarkFrom}
-use Rattle.l1.proofs.Marking.{values_long, marks_long}
+use Rattle.l1.specs.Private.{is_changed, behind, at_of, left_of, MarkFrom}
+use Rattle.std.specs.Prelude.{Some, Option}
+use Rattle.l1.proofs.Marking.{values_long}
 use Rattle.l1.proofs.Values.{number_inside, number_small, number_back}
 
 -- ---- the chosen ones
@@ -149,39 +150,42 @@ abbrev pub reached : ℕ → ℕ
 reached i = min (i - 192) 170
 
 -- the mark that a search found is the first from itself on
-pub mark_here : (m : List ℕ) (f : ℕ) (x : Mark) → MarkFrom m f x → x.at ≡ first (is_marked m) (384 - x.at) x.at
+pub mark_here : (m : List ℕ) (f : ℕ) (x : Option Mark) → MarkFrom m f x → (at_of x) ≡ first (is_marked m) (384 - (at_of x)) (at_of x)
 mark_here m f x k =
-    let q : f + (384 - f) - x.at ≡ 384 - x.at = omega (arith, k.above, k.within) in
-    first_again (is_marked m) (384 - f) f x.at k.at ∙ ap (λ (n : ℕ). first (is_marked m) n x.at) q
+    let q : f + (384 - f) - (at_of x) ≡ 384 - (at_of x) = omega (arith, k.above, k.within) in
+    first_again (is_marked m) (384 - f) f (at_of x) k.at ∙ ap (λ (n : ℕ). first (is_marked m) n (at_of x)) q
 
-pub mark_left : (m : List ℕ) (f : ℕ) (x : Mark) → MarkFrom m f x → x.left ≡ behind m x.at
+pub mark_left : (m : List ℕ) (f : ℕ) (x : Option Mark) → MarkFrom m f x → (left_of x) ≡ behind m (at_of x)
 mark_left m f x k = k.left
 
-pub mark_above : (m : List ℕ) (f n : ℕ) (x : Mark) → MarkFrom m f x → n ≤ f → n ≤ x.at
+pub mark_above : (m : List ℕ) (f n : ℕ) (x : Option Mark) → MarkFrom m f x → n ≤ f → n ≤ (at_of x)
 mark_above m f n x k h = omega (arith, k.above)
 
-pub mark_within : (m : List ℕ) (f : ℕ) (x : Mark) → MarkFrom m f x → x.at ≤ 384
+pub mark_within : (m : List ℕ) (f : ℕ) (x : Option Mark) → MarkFrom m f x → (at_of x) ≤ 384
 mark_within m f x k = k.within
 
+pub mark_there : (m : List ℕ) (f : ℕ) (x : Option Mark) → MarkFrom m f x → (y : Mark) → x ≡ Some y → y.at < 384
+mark_there m f x k = k.there
+
 -- none before the first mark
-pub chosen_none : (m : List ℕ) (x : Mark) → MarkFrom m 192 x → chosen (is_changed m) (reached x.at) ≡ []
+pub chosen_none : (m : List ℕ) (x : Option Mark) → MarkFrom m 192 x → chosen (is_changed m) (reached (at_of x)) ≡ []
 unfolding chosen
 chosen_none m x k =
-    let q : reached x.at ≡ 0 + reached x.at = omega arith in
-    ap (chosen (is_changed m)) q ∙ chosen_skip (is_changed m) 0 (reached x.at) (λ j a b. first_clear (is_marked m) 192 192 x.at k.at (192 + j) (omega arith) (omega arith))
+    let q : reached (at_of x) ≡ 0 + reached (at_of x) = omega arith in
+    ap (chosen (is_changed m)) q ∙ chosen_skip (is_changed m) 0 (reached (at_of x)) (λ j a b. first_clear (is_marked m) 192 192 (at_of x) k.at (192 + j) (omega arith) (omega arith))
 
 -- the turn: one more
-module _ (m : List ℕ) (i : ℕ) (y : Mark) (low : 192 ≤ i) (high : i < 362) (e : i ≡ first (is_marked m) (384 - i) i) where
+module _ (m : List ℕ) (i : ℕ) (y : Option Mark) (low : 192 ≤ i) (high : i < 362) (e : i ≡ first (is_marked m) (384 - i) i) where
   pub marked_here : is_changed m (i - 192) ≡ true
   marked_here = let q : 192 + (i - 192) ≡ i = omega arith in ap (is_marked m) q ∙ first_has (is_marked m) (384 - i) i i e (omega arith)
 
   pub here : reached i ≡ i - 192
   here = omega arith
 
-  pub chosen_turn : MarkFrom m (i + 1) y → chosen (is_changed m) (reached y.at) ≡ chosen (is_changed m) (suc (i - 192))
+  pub chosen_turn : MarkFrom m (i + 1) y → chosen (is_changed m) (reached (at_of y)) ≡ chosen (is_changed m) (suc (i - 192))
   chosen_turn k =
-      let q : reached y.at ≡ suc (i - 192) + (reached y.at - suc (i - 192)) = omega (arith, k.above) in
-      ap (chosen (is_changed m)) q ∙ chosen_skip (is_changed m) (suc (i - 192)) (reached y.at - suc (i - 192)) (λ x a b. first_clear (is_marked m) (384 - (i + 1)) (i + 1) y.at k.at (192 + x) (omega arith) (omega arith))
+      let q : reached (at_of y) ≡ suc (i - 192) + (reached (at_of y) - suc (i - 192)) = omega (arith, k.above) in
+      ap (chosen (is_changed m)) q ∙ chosen_skip (is_changed m) (suc (i - 192)) (reached (at_of y) - suc (i - 192)) (λ x a b. first_clear (is_marked m) (384 - (i + 1)) (i + 1) (at_of y) k.at (192 + x) (omega arith) (omega arith))
 
   module _ (x : Element) (at : ℕ) (t : x ≡ thread_element (i - 192)) (w : at ≡ 4 + weigh (chosen (is_changed m) (reached i))) where
     same_size : x.size ≡ (thread_element (i - 192)).size
@@ -190,7 +194,7 @@ module _ (m : List ℕ) (i : ℕ) (y : Mark) (low : 192 ≤ i) (high : i < 362) 
     next_weigh : at + 4 + x.size ≡ 4 + weigh (chosen (is_changed m) (suc (i - 192)))
     next_weigh = omega (arith, w, same_size, ap (λ (n : ℕ). weigh (chosen (is_changed m) n)) here, weigh_next (is_changed m) (i - 192) (omega arith) marked_here)
 
-    pub walk_at : (a : ℕ) → a ≡ at + 4 + x.size → MarkFrom m (i + 1) y → a ≡ 4 + weigh (chosen (is_changed m) (reached y.at))
+    pub walk_at : (a : ℕ) → a ≡ at + 4 + x.size → MarkFrom m (i + 1) y → a ≡ 4 + weigh (chosen (is_changed m) (reached (at_of y)))
     walk_at a u k = u ∙ next_weigh ∙ ap (λ (ids : List ℕ). 4 + weigh ids) (sym (chosen_turn k))
 
     pub walk_room : (n l : ℕ) → row_bytes (chosen (is_changed m) 170) ≤ n → l ≡ n → at + 4 + x.size ≤ l
@@ -199,7 +203,7 @@ module _ (m : List ℕ) (i : ℕ) (y : Mark) (low : 192 ≤ i) (high : i < 362) 
         omega (arith, r, next_weigh, weigh_upto (is_changed m) (suc (i - 192)) (170 - suc (i - 192)), ap (λ (k : ℕ). weigh (chosen (is_changed m) k)) q)
 
     pub walk_put : (vs b u v : List ℕ) → length vs ≡ 1820 → u ≡ put b 4 (elements_bytes (valued 0 vs (chosen (is_changed m) (reached i)))) → v ≡ put u at (element_bytes x.id (bytes_at vs x.position x.size))
-        → MarkFrom m (i + 1) y → v ≡ put b 4 (elements_bytes (valued 0 vs (chosen (is_changed m) (reached y.at))))
+        → MarkFrom m (i + 1) y → v ≡ put b 4 (elements_bytes (valued 0 vs (chosen (is_changed m) (reached (at_of y)))))
     walk_put vs b u v l p q k =
         let n = i - 192 in
         let s : at ≡ 4 + length (elements_bytes (valued 0 vs (chosen (is_changed m) (i - 192)))) = w ∙ ap (λ (y : ℕ). 4 + weigh (chosen (is_changed m) y)) here ∙ ap (λ (y : ℕ). 4 + y) (sym (weighed vs (is_changed m) n l (omega arith))) in
@@ -208,12 +212,12 @@ module _ (m : List ℕ) (i : ℕ) (y : Mark) (low : 192 ≤ i) (high : i < 362) 
         ∙ ap (λ (es : List (ℕ × List ℕ)). put b 4 (elements_bytes es)) (sym (valued_more vs (is_changed m) n (omega arith) marked_here))
         ∙ ap (λ (ids : List ℕ). put b 4 (elements_bytes (valued 0 vs ids))) (sym (chosen_turn k))
 
-module _ (m : List ℕ) (x : Mark) (k : MarkFrom m 192 x) where
-  pub walk_start : 4 ≡ 4 + weigh (chosen (is_changed m) (reached x.at))
+module _ (m : List ℕ) (x : Option Mark) (k : MarkFrom m 192 x) where
+  pub walk_start : 4 ≡ 4 + weigh (chosen (is_changed m) (reached (at_of x)))
   unfolding weigh
   walk_start = ap (λ (ids : List ℕ). 4 + weigh ids) (sym (chosen_none m x k))
 
-  pub put_start : (vs b : List ℕ) → b ≡ put b 4 (elements_bytes (valued 0 vs (chosen (is_changed m) (reached x.at))))
+  pub put_start : (vs b : List ℕ) → b ≡ put b 4 (elements_bytes (valued 0 vs (chosen (is_changed m) (reached (at_of x)))))
   unfolding valued
   put_start vs b = elements_none b 4 ∙ ap (λ (ids : List ℕ). put b 4 (elements_bytes (valued 0 vs ids))) (sym (chosen_none m x k))
 
@@ -243,11 +247,8 @@ module _ (o : Offer) (vs ms : List ℕ) (g : good_cache o (record { values = vs;
   abbrev cache : Cache
   cache = record { values = vs; marks = ms }
 
-  pub cache_values : length vs ≡ 1820
+  cache_values : length vs ≡ 1820
   cache_values = values_long o vs ms true (sym g) refl
-
-  pub cache_marks : length ms ≡ 6
-  cache_marks = marks_long o vs ms true (sym g) refl
 
   pub cache_good : (e : ℕ) → e < 192 → mark_good o cache e ≡ true
   unfolding good_cache
@@ -262,6 +263,17 @@ module _ (o : Offer) (vs ms : List ℕ) (g : good_cache o (record { values = vs;
       let p : not (valid cache e) && not (changed cache e) ≡ true =
       sym (ap (λ (t : Bool). cond t (not (changed cache e) || (valid cache e && is_input o (thread_element e).id)) (not (valid cache e) && not (changed cache e))) q) ∙ cache_good e b in
       not-true _ (both (not (valid cache e)) (not (changed cache e)) p).1
+
+  -- a mark that the search finds is an element's
+  pub mark_small : (i : ℕ) → 192 ≤ i → i < 384 → i ≡ first (is_marked ms) (384 - i) i → i < 362
+  mark_small i low high e = go (dec_lt i 362)
+    where
+      go : Dec (i < 362) → i < 362
+      go (yes h) = h
+      go (no h) =
+          let q : 192 + (i - 192) ≡ i = omega arith in
+          let p : is_changed ms (i - 192) ≡ true = ap (is_marked ms) q ∙ first_has (is_marked ms) (384 - i) i i e (omega arith) in
+          absurd (no_bool (sym (none_past (i - 192) (omega arith) (omega arith)) ∙ p))
 
   pub pending_count : length (pending cache) ≡ tally (is_changed ms) 192
   pending_count =

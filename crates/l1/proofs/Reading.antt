@@ -1,16 +1,19 @@
 -- A read, in the form of the code's needs. Assumes nothing.
 use mathlib.Core.Path.{◌≡◌, sym, ap, ap₂, ◌∙◌, subst}
 use mathlib.Core.Bool.{Bool, true, false, not, cond}
-use mathlib.Core.List.{List}
+use mathlib.Core.List.{List, ◌∷◌}
 use Prim.Native.Nat.{ℕ, ◌+◌, ◌≤◌, ◌<◌}
 use native.Mathlib.Nat.{eq-zero-or-pos}
 use native.Mathlib.Omega.{arith}
 use mathlib.Core.Logic.{◌⊎◌, inl, inr}
 use lib.ListN.{length}
 use borrow.Author.Tests.{not-true, not-false}
+use Rattle.std.specs.Array.{IsWholeChunk}
+use Rattle.std.specs.Prelude.{Option, Result, Ok, Err}
 use Rattle.octets.specs.Bytes.{bytes_at, put}
 use Rattle.octets.proofs.Bytes.{length_bytes_at, put_all}
 use Rattle.answer.specs.declared.Fault.{Fault}
+use Rattle.answer.specs.declared.Fault.TheVariants.{Cache as CacheBad}
 use Rattle.answer.specs.declared.Answer.{Answer}
 use Rattle.answer.specs.declared.Call.{Call}
 use Rattle.answer.specs.declared.Call.TheVariants.{CacheRead}
@@ -28,16 +31,14 @@ use Rattle.rules.specs.Rules.{permits}
 use Rattle.exits.specs.Exits.{element_of}
 use Rattle.store.specs.Layout.{layout_of}
 use Rattle.store.proofs.Search.{both, no_bool}
-use Rattle.admission.specs.declared.Admission.{Admission}
-use Rattle.admission.specs.declared.Admission.TheVariants.{Admitted, Refused}
-use Rattle.admission.specs.Refusals.{success, refusal, judgement}
+use Rattle.admission.specs.Refusals.{success, refusal}
 use Rattle.state.specs.State.{got_element}
-use Rattle.admission.proofs.Judging.{all_refused, all_admitted}
-use Rattle.l1.specs.Marks.{Cache, is_marked, allowed, is_readable, is_special}
-use Rattle.l1.specs.Cache.{ReadOutcome, keep, fetched, read_cache}
+use Rattle.l1.specs.Marks.{Cache, is_marked, allowed, is_readable, is_special, good_cache}
+use Rattle.l1.specs.Cache.{value_tests, ReadOutcome, keep, fetched, read_cache}
 use Rattle.l1.specs.Private.{cell_if, Sized, Within, kept_at, element_tests, element_good, read_value}
+use Rattle.l1.proofs.Marking.{short_values, short_marks}
 use Rattle.l1.proofs.Cells.{readable_named}
-use Rattle.l1.proofs.Values.{named_within, tests_same, kept_as}
+use Rattle.l1.proofs.Values.{named_within, on_tests, whole_long, tests_same, kept_as}
 
 pub accepted_as : (c : Call) (a : Answer) (r : Registers) → r ≡ told c a.fault a.value → accepted r ≡ accepted (told c a.fault a.value)
 accepted_as c a r e = ap (λ (x : Registers). accepted x) e
@@ -122,27 +123,47 @@ module _ (s : List ℕ) (guest vcpu : ℕ) (vs ms : List ℕ) (id : ℕ) (x : Ce
       ap₂ (λ (f : Answer) (g : List ℕ). record { answer = f; cache = record { values = vs; marks = ms }; value = g }) i t ∙ sym (value_as true (not-false y n))
 
 -- ---- the read
-module _ (s : List ℕ) (guest vcpu pvr : ℕ) (vs ms : List ℕ) (id : ℕ) (v : List ℕ) (o : Offer) (eo : o ≡ offer_of pvr) (x : Cell) (e : x ≡ cell_if (is_readable o id) id) (a : Admission) (q : a ≡ element_good o (record { values = vs; marks = ms }) x.size v) (r : Answer) where
+-- of lent slices of another length
+module _ (s : List ℕ) (guest vcpu pvr : ℕ) (vs ms : List ℕ) (id : ℕ) (v : List ℕ) (r : Answer) (i : r ≡ refusal CacheBad) where
+  none_read : good_cache (offer_of pvr) (record { values = vs; marks = ms }) ≡ false
+      → ◌≡◌ {A = ReadOutcome} (record { answer = r; cache = record { values = vs; marks = ms }; value = v }) (read_cache (layout_of s) s guest vcpu pvr (record { values = vs; marks = ms }) id v)
+  unfolding read_cache read_value
+  none_read g =
+      let c : Cache = record { values = vs; marks = ms } in
+      ap (λ (y : Answer). record { answer = y; cache = c; value = v }) i
+      ∙ sym (ap (λ (t : Bool). first_of (λ f. record { answer = refusal f; cache = c; value = v }) ((not t, CacheBad) ∷ value_tests (is_readable (offer_of pvr) id) id v) (read_value s guest vcpu c id v)) g)
+
+  pub read_short_values : (length vs ≡ 1820 → ⊥)
+      → ◌≡◌ {A = ReadOutcome} (record { answer = r; cache = record { values = vs; marks = ms }; value = v }) (read_cache (layout_of s) s guest vcpu pvr (record { values = vs; marks = ms }) id v)
+  read_short_values n = none_read (short_values (offer_of pvr) vs ms n)
+
+  pub read_short_marks : (length ms ≡ 6 → ⊥)
+      → ◌≡◌ {A = ReadOutcome} (record { answer = r; cache = record { values = vs; marks = ms }; value = v }) (read_cache (layout_of s) s guest vcpu pvr (record { values = vs; marks = ms }) id v)
+  read_short_marks n = none_read (short_marks (offer_of pvr) vs ms n)
+
+-- of two arrays, us and ns, which are the whole slices
+module _ (s : List ℕ) (guest vcpu pvr : ℕ) (vs ms us ns : List ℕ) (p : IsWholeChunk vs us 1820) (w : IsWholeChunk ms ns 6) (id : ℕ) (v : List ℕ) (o : Offer) (eo : o ≡ offer_of pvr) (y : Option Cell)
+    (e : y ≡ cell_if (is_readable o id) id) (a : Result Cell Fault) (q : a ≡ element_good o ns y v) (r : Answer) where
   abbrev before : Cache
-  before = record { values = vs; marks = ms }
+  before = record { values = us; marks = ns }
 
   abbrev refused : Fault → ReadOutcome
   refused f = record { answer = refusal f; cache = before; value = v }
 
-  judged : judgement (element_tests o before (is_readable o id) id v) ≡ a
-  judged = tests_same o before (is_readable o id) id x v e (readable_named o id) ∙ sym q
-
-  read_as : read_cache (layout_of s) s guest vcpu pvr before id v ≡ first_of refused (element_tests o before (is_readable o id) id v) (read_value s guest vcpu before id v)
+  read_as : read_cache (layout_of s) s guest vcpu pvr (record { values = vs; marks = ms }) id v ≡ on_tests refused (read_value s guest vcpu before id v) a
   unfolding read_cache read_value
-  read_as = ap (λ (p : Offer). first_of refused (element_tests p before (is_readable p id) id v) (read_value s guest vcpu before id v)) (sym eo)
+  read_as =
+      ap₂ (λ (x z : List ℕ). read_cache (layout_of s) s guest vcpu pvr (record { values = x; marks = z }) id v) (sym p.same) (sym w.same)
+      ∙ ap (λ (p : Offer). first_of refused (element_tests p before (is_readable p id) id v) (read_value s guest vcpu before id v)) (sym eo)
+      ∙ tests_same refused (read_value s guest vcpu before id v) o us ns (whole_long vs us 1820 p) (whole_long ms ns 6 w) (is_readable o id) id v
+      ∙ ap (on_tests refused (read_value s guest vcpu before id v)) (ap (λ (z : Option Cell). element_good o ns z v) (sym e) ∙ sym q)
 
-  pub read_bad : (f : Fault) → a ≡ Refused f → r ≡ refusal f
-      → ◌≡◌ {A = ReadOutcome} (record { answer = r; cache = record { values = vs; marks = ms }; value = v }) (read_cache (layout_of s) s guest vcpu pvr (record { values = vs; marks = ms }) id v)
+  pub read_bad : (f : Fault) → a ≡ Err f → r ≡ refusal f
+      → ◌≡◌ {A = ReadOutcome} (record { answer = r; cache = record { values = us; marks = ns }; value = v }) (read_cache (layout_of s) s guest vcpu pvr (record { values = vs; marks = ms }) id v)
   read_bad f h i =
-      ap (λ (y : Answer). record { answer = y; cache = before; value = v }) i
-      ∙ sym (read_as ∙ all_refused refused (read_value s guest vcpu before id v) (element_tests o before (is_readable o id) id v) f (judged ∙ h))
+      ap (λ (y : Answer). record { answer = y; cache = before; value = v }) i ∙ sym (read_as ∙ ap (on_tests refused (read_value s guest vcpu before id v)) h)
 
-  pub read_good : (us ns u : List ℕ) → a ≡ Admitted
-      → ◌≡◌ {A = ReadOutcome} (record { answer = r; cache = record { values = us; marks = ns }; value = u }) (read_value s guest vcpu (record { values = vs; marks = ms }) id v)
-      → ◌≡◌ {A = ReadOutcome} (record { answer = r; cache = record { values = us; marks = ns }; value = u }) (read_cache (layout_of s) s guest vcpu pvr (record { values = vs; marks = ms }) id v)
-  read_good us ns u h w = w ∙ sym (read_as ∙ all_admitted refused (read_value s guest vcpu before id v) (element_tests o before (is_readable o id) id v) (judged ∙ h))
+  pub read_good : (x : Cell) (xs zs u : List ℕ) → a ≡ Ok x
+      → ◌≡◌ {A = ReadOutcome} (record { answer = r; cache = record { values = xs; marks = zs }; value = u }) (read_value s guest vcpu (record { values = us; marks = ns }) id v)
+      → ◌≡◌ {A = ReadOutcome} (record { answer = r; cache = record { values = xs; marks = zs }; value = u }) (read_cache (layout_of s) s guest vcpu pvr (record { values = vs; marks = ms }) id v)
+  read_good x xs zs u h i = i ∙ sym (read_as ∙ ap (on_tests refused (read_value s guest vcpu before id v)) h)

@@ -1,11 +1,12 @@
 -- The cache after a run: the laws of the loop that keeps the output's elements. Assumes nothing.
-use mathlib.Core.Path.{◌≡◌, sym, ap, ap₂, ◌∙◌, subst}
-use mathlib.Core.List.{List}
+use mathlib.Core.Path.{◌≡◌, refl, sym, ap, ap₂, ◌∙◌, subst}
+use mathlib.Core.List.{List, [], ◌∷◌}
 use Prim.Native.Nat.{ℕ, ◌+◌, ◌^◌, ◌≤◌, ◌<◌}
 use native.Mathlib.Numerals.{add-one}
 use native.Mathlib.Omega.{arith}
 use lib.ListN.{length}
 use Rattle.octets.specs.Bytes.{bytes_at, put, zeros}
+use Rattle.std.specs.Prelude.{Some}
 use Rattle.elements.specs.declared.Cell.{Cell}
 use Rattle.elements.specs.Table.{kind_of}
 use Rattle.elements.specs.Cells.{cell_of, register_cell}
@@ -58,9 +59,9 @@ module _ (b : List ℕ) (at : ℕ) (k : Keeps b at) where
         ∙ ap (λ (y : Cell). kept_at (record { values = vs; marks = ms }) y (value_at b at)) (sym is_cell)
 
   -- a register of 8 bytes
-  module _ (id : ℕ) (e : id ≡ id_at b at) (x : Cell) (r : x ≡ register_cell id) (h : x.size ≡ 8) where
+  module _ (id : ℕ) (e : id ≡ id_at b at) (x : Cell) (r : Some x ≡ register_cell id) (h : x.size ≡ 8) where
     cell : x ≡ cell_of id
-    cell = cell_known id x r (λ z. omega arith)
+    cell = cell_known id x r
 
     pub double_from : at + 4 + 8 ≤ length b
     double_from = omega (arith, keep_from id e x cell)
@@ -93,9 +94,9 @@ abbrev pub kept_upto : List ℕ → List ℕ → ℕ → Cache
 kept_upto b vs i = record { values = applied 0 b i vs; marks = marked (zeros 6) b i }
 
 module _ (b vs : List ℕ) where
-  pub keeps_start : (ms : List ℕ) → ms ≡ zeros 6 → ◌≡◌ {A = Cache} (record { values = vs; marks = ms }) (kept_upto b vs 0)
-  unfolding applied marked
-  keeps_start ms e = ap (λ (y : List ℕ). record { values = vs; marks = y }) e
+  pub keeps_start : ◌≡◌ {A = Cache} (record { values = vs; marks = 0 ∷ 0 ∷ 0 ∷ 0 ∷ 0 ∷ 0 ∷ [] }) (kept_upto b vs 0)
+  unfolding applied marked zeros
+  keeps_start = refl
 
   pub keeps_turn : (i at : ℕ) (ws ms us ns : List ℕ) → Keeps b at → at ≡ offset_at b i → ◌≡◌ {A = Cache} (record { values = ws; marks = ms }) (kept_upto b vs i)
       → ◌≡◌ {A = Cache} (record { values = us; marks = ns }) (kept_at (record { values = ws; marks = ms }) (cell_of (id_at b at)) (value_at b at))

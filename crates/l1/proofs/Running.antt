@@ -7,6 +7,8 @@ use native.Mathlib.Omega.{arith}
 use lib.Dec.{eqb, ltb}
 use lib.ListN.{length}
 use borrow.Author.Tests.{lt-ltb, le-ltb, ltb-false, not-true, not-false}
+use Rattle.std.specs.Array.{IsWholeChunk}
+use Rattle.std.specs.Prelude.{Result, Ok, Err}
 use Rattle.octets.specs.Bytes.{bytes_at, put}
 use Rattle.octets.proofs.Bytes.{length_put}
 use Rattle.answer.specs.declared.Answer.{Answer}
@@ -21,9 +23,7 @@ use Rattle.elements.specs.Table.{thread_element}
 use Rattle.elements.specs.Later.{offer_of, offers}
 use Rattle.rules.specs.declared.Usage.TheVariants.{RunInput, Effect as InEffect}
 use Rattle.rules.specs.declared.Context.{Context}
-use Rattle.gsb.specs.declared.Walked.{Walked}
-use Rattle.gsb.specs.declared.Walked.TheVariants.{Done, Stopped}
-use Rattle.gsb.specs.Walk.{count_of, bad_length, first_bad, is_stopped, fault_of}
+use Rattle.gsb.specs.Walk.{count_of, bad_length, first_bad, is_stopped, fault_of, Walked, stopped_at}
 use Rattle.gsb.specs.Message.{message, Begins}
 use Rattle.gsb.proofs.Messages.{length_message}
 use Rattle.gsb.proofs.Walks.{long_enough}
@@ -38,22 +38,19 @@ use Rattle.transfer.proofs.Moving.{length_applied}
 use Rattle.exits.specs.Exits.{returned, row_bytes, valued, output_of}
 use Rattle.exits.proofs.Written.{valued_append, length_valued}
 use Rattle.exits.proofs.Rows.{length_output, output_short, returned_few}
-use Rattle.admission.specs.declared.Admission.{Admission}
-use Rattle.admission.specs.declared.Admission.TheVariants.{Admitted, Refused}
-use Rattle.admission.specs.Refusals.{refusal, refuse, decide, judgement, Passed, success}
+use Rattle.admission.specs.Refusals.{Admission, refusal, refuse, decide, judgement, Passed, success}
 use Rattle.admission.specs.Target.{base_of}
 use Rattle.admission.proofs.Judging.{begin_refused, begin_admitted, all_refused, all_admitted, was_refused, was_admitted, judged_passed}
 use Rattle.state.specs.State.{context_of}
 use Rattle.state.proofs.Buffers.{ready_as}
 use Rattle.run.specs.declared.RunTarget.{RunTarget}
-use Rattle.run.specs.declared.RunTarget.TheVariants.{Refused as RunRefused, Slot}
 use Rattle.run.specs.Run.{input_size, exit_tests, run_target_tests, input_of, content_tests, ran_store, ran, run_vcpu}
-use Rattle.run.specs.Private.{exit_good, content_good, run_target_of}
+use Rattle.run.specs.Private.{target_at, exit_good, content_good, run_target_of}
 use Rattle.run.proofs.Runs.{RunFound, run_found, stopped_not, ready_after}
 use Rattle.l1.specs.Marks.{Cache, valid, changed, is_input, mark_good, good_cache}
 use Rattle.l1.specs.Cache.{chosen, pending, refreshed, RunOutcome, ran_with, cached_tests, run_cache, Fit}
-use Rattle.l1.specs.Private.{is_changed, lacked_from, cached_target, Sendable, sent, AllKeeps}
-use Rattle.l1.proofs.Marking.{values_long, marks_long}
+use Rattle.l1.specs.Private.{good_marks, is_changed, lacked_from, cached_target, Sendable, sent, AllKeeps}
+use Rattle.l1.proofs.Marking.{values_long, marks_long, short_values, short_marks, good_words}
 use Rattle.l1.proofs.Values.{input_by}
 use Rattle.l1.proofs.Pending.{weighed, chosen_few}
 use Rattle.l1.proofs.Cells.{number_named, length_value}
@@ -100,7 +97,7 @@ module _ (o : Offer) (c : Cache) (good : good_cache o c ≡ true) where
   need_is n e = e ∙ ap (λ (k : ℕ). 4 + k) (sym (weighed c.values (changed c) 170 long (omega arith))) ∙ sym (length_message (pending c))
 
   -- in a buffer that begins with it, by a context of this list
-  sent_good : (k : Context) → k.usage ≡ RunInput → k.offer ≡ o → (b : List ℕ) → Begins b (message (pending c)) → first_bad k b ≡ Done
+  sent_good : (k : Context) → k.usage ≡ RunInput → k.offer ≡ o → (b : List ℕ) → Begins b (message (pending c)) → first_bad k b ≡ Ok tt
   sent_good k u e b s = fit_good k u (pending c) b (subst (λ (x : Offer). Fit x (pending c)) (sym e) pending_fit) pending_few s
 
 -- what is good by a list is good by 01's
@@ -124,13 +121,10 @@ good_full o c good =
         less (ltb e 170) (changed c e) (valid c e) (is_input Full i) (offers o i)
         (ap (λ (t : Bool). cond (ltb e 170) (not (changed c e) || (valid c e && t)) (not (valid c e) && not (changed c e))) (sym (input_by o i)) ∙ m)
 
-pub full_six : (vs ms : List ℕ) → good_cache Full (record { values = vs; marks = ms }) ≡ true → length ms ≡ 6
-full_six vs ms g = marks_long Full vs ms true (sym g) refl
-
 -- ---- tests that none of which holds
-pub passed_judged : (xs : List (Bool × Fault)) → Passed xs → judgement xs ≡ Admitted
+pub passed_judged : (xs : List (Bool × Fault)) → Passed xs → judgement xs ≡ Ok tt
 passed_judged [] p = refl
-passed_judged (x ∷ xs) p = ap (λ (t : Bool). cond t (Refused x.1) (judgement xs)) p.0 ∙ passed_judged xs p.1
+passed_judged (x ∷ xs) p = ap (λ (t : Bool). cond t (Err x.1) (judgement xs)) p.0 ∙ passed_judged xs p.1
 
 or_false : (a b : Bool) → (a || b) ≡ false → (a ≡ false) × (b ≡ false)
 or_false true b e = let z : ◌≡◌ {A = ℕ} 0 1 = cc in absurd (omega arith)
@@ -138,26 +132,29 @@ or_false false b e = (refl, e)
 
 -- ---- what would be sent, judged by the guest's own list
 module _ (l : Layout) (s : List ℕ) (guest : ℕ) (vs ms effect : List ℕ) (exit : ℕ) (good : good_cache Full (record { values = vs; marks = ms }) ≡ true)
-    (k : Context) (is : k ≡ context_of l s guest RunInput) (t : Bool) (e : t ≡ good_cache k.offer (record { values = vs; marks = ms })) where
+    (k : Context) (is : k ≡ context_of l s guest RunInput) (t : Bool) (q : t ≡ good_marks k.offer ms) where
   abbrev c : Cache
   c = record { values = vs; marks = ms }
+
+  e : t ≡ good_cache k.offer (record { values = vs; marks = ms })
+  e = q ∙ sym (good_words k.offer vs ms (long Full c good) (marks_long Full vs ms true (sym good) refl))
 
   usage : k.usage ≡ RunInput
   usage = ap (λ (x : Context). x.usage) is
 
   content_by : Walked → Admission
-  content_by w = cond (is_stopped w) (Refused (fault_of w)) (judgement (exit_tests (context_of l s guest InEffect) effect exit))
+  content_by w = cond (is_stopped w) (Err (fault_of w)) (judgement (exit_tests (context_of l s guest InEffect) effect exit))
 
   content_as : (w : Walked) → first_bad k (message (pending c)) ≡ w → content_by w ≡ content_good l s guest (message (pending c)) effect exit
   unfolding content_good content_by
   content_as w d = sym (ap content_by (ap (λ (x : Context). first_bad x (message (pending c))) (sym is) ∙ d))
 
   pub sent_lacks : not t ≡ true → (r : Place) → r ≡ lacked_from k.offer (chosen (is_changed ms) 170) 0 4
-      → Refused (Element Id r) ≡ content_good l s guest (message (pending (record { values = vs; marks = ms }))) effect exit
+      → Err (Element Id r) ≡ content_good l s guest (message (pending (record { values = vs; marks = ms }))) effect exit
   unfolding content_by
   sent_lacks n r q =
-      ap (λ (x : Place). Refused (Element Id x)) q
-      ∙ content_as (Stopped Id (lacked_from k.offer (chosen (is_changed ms) 170) 0 4))
+      ap (λ (x : Place). Err (Element Id x)) q
+      ∙ content_as (stopped_at Id (lacked_from k.offer (chosen (is_changed ms) 170) 0 4))
       (lacked_stops k usage vs (chosen (is_changed ms) 170) (pending_fit Full c good) (chosen_few (is_changed ms) 170) (good_lacks k.offer c good t e n))
 
   pub sent_exit : not t ≡ false → (m : Context) → m ≡ context_of l s guest InEffect → (v : Admission) → v ≡ exit_good m effect exit
@@ -165,27 +162,27 @@ module _ (l : Layout) (s : List ℕ) (guest : ℕ) (vs ms effect : List ℕ) (ex
   unfolding content_by exit_good
   sent_exit n m i v q =
       q ∙ ap (λ (x : Context). judgement (exit_tests x effect exit)) i
-      ∙ content_as Done (sent_good k.offer c (sym e ∙ not-false t n) k usage refl (message (pending c)) (begins_self (message (pending c))))
+      ∙ content_as (Ok tt) (sent_good k.offer c (sym e ∙ not-false t n) k usage refl (message (pending c)) (begins_self (message (pending c))))
 
 -- ---- a run's target
-run_refused_same : (f g : Fault) → RunRefused f ≡ RunRefused g → f ≡ g
+run_refused_same : (f g : Fault) → ◌≡◌ {A = Result RunTarget Fault} (Err f) (Err g) → f ≡ g
 run_refused_same f g e = cc
 
-run_refused_not : {base n : ℕ} (f : Fault) → Slot base n ≡ RunRefused f → ⊥
-run_refused_not f e = let z : ◌≡◌ {A = ℕ} 0 1 = cc in omega arith
+run_refused_not : {t : RunTarget} (f : Fault) → ◌≡◌ {A = Result RunTarget Fault} (Ok t) (Err f) → ⊥
+run_refused_not f e = cc
 
-slot_not : {base n : ℕ} (f : Fault) → RunRefused f ≡ Slot base n → ⊥
-slot_not f e = let z : ◌≡◌ {A = ℕ} 0 1 = cc in omega arith
+slot_not : {t : RunTarget} (f : Fault) → ◌≡◌ {A = Result RunTarget Fault} (Err f) (Ok t) → ⊥
+slot_not f e = cc
 
-slot_same : {b c m n : ℕ} → Slot b m ≡ Slot c n → (b ≡ c) × (m ≡ n)
-slot_same e = (cc, cc)
+target_same : {t u : RunTarget} → ◌≡◌ {A = Result RunTarget Fault} (Ok t) (Ok u) → t ≡ u
+target_same e = cc
 
 module _ (s vs ms effect : List ℕ) (flags guest vcpu inputLength output_length exit : ℕ) where
   abbrev cache : Cache
   cache = record { values = vs; marks = ms }
 
-  abbrev there : RunTarget
-  there = Slot (base_of (layout_of s) s false guest vcpu) (input_size s (base_of (layout_of s) s false guest vcpu))
+  abbrev there : Result RunTarget Fault
+  there = Ok (target_at s (base_of (layout_of s) s false guest vcpu))
 
   abbrev firsts : List (Bool × Fault)
   firsts = run_target_tests (layout_of s) s flags guest vcpu (length (message (pending cache))) inputLength output_length
@@ -195,33 +192,33 @@ module _ (s vs ms effect : List ℕ) (flags guest vcpu inputLength output_length
 
   -- the answers of `judge_cached`
   module _ (good : good_cache Full (record { values = vs; marks = ms }) ≡ true) (need : ℕ) (en : need ≡ row_bytes (chosen (is_changed ms) 170))
-      (a : RunTarget) (q : a ≡ run_target_of (layout_of s) s flags guest vcpu need inputLength output_length) where
-    target_as : first_of RunRefused firsts there ≡ a
+      (a : Result RunTarget Fault) (q : a ≡ run_target_of (layout_of s) s flags guest vcpu need inputLength output_length) where
+    target_as : first_of Err firsts there ≡ a
     unfolding run_target_of
     target_as =
         sym (q ∙ ap (λ (n : ℕ). run_target_of (layout_of s) s flags guest vcpu n inputLength output_length) (need_is Full cache good need en))
 
-    pub cached_refused : (f : Fault) → a ≡ RunRefused f → RunRefused f ≡ cached_target s (record { values = vs; marks = ms }) flags guest vcpu inputLength output_length effect exit
+    pub cached_refused : (f : Fault) → a ≡ Err f → Err f ≡ cached_target s (record { values = vs; marks = ms }) flags guest vcpu inputLength output_length effect exit
     unfolding cached_target
-    cached_refused f h = sym (begin_refused RunRefused there firsts contents f (was_refused RunRefused run_refused_same there run_refused_not firsts f (target_as ∙ h)))
+    cached_refused f h = sym (begin_refused Err there firsts contents f (was_refused Err run_refused_same there run_refused_not firsts f (target_as ∙ h)))
 
-    module _ (base n : ℕ) (h : a ≡ Slot base n) (v : Admission) (w : v ≡ content_good (layout_of s) s guest (message (pending (record { values = vs; marks = ms }))) effect exit) where
-      at_slot : (judgement firsts ≡ Admitted) × (there ≡ Slot base n)
-      at_slot = was_admitted RunRefused run_refused_same there run_refused_not firsts (Slot base n) slot_not (target_as ∙ h)
+    module _ (t : RunTarget) (h : a ≡ Ok t) (v : Admission) (w : v ≡ content_good (layout_of s) s guest (message (pending (record { values = vs; marks = ms }))) effect exit) where
+      at_slot : (judgement firsts ≡ Ok tt) × (there ≡ Ok t)
+      at_slot = was_admitted Err run_refused_same there run_refused_not firsts (Ok t) slot_not (target_as ∙ h)
 
-      past : cached_target s cache flags guest vcpu inputLength output_length effect exit ≡ first_of RunRefused contents there
+      past : cached_target s cache flags guest vcpu inputLength output_length effect exit ≡ first_of Err contents there
       unfolding cached_target
-      past = begin_admitted RunRefused there firsts contents at_slot.0
+      past = begin_admitted Err there firsts contents at_slot.0
 
       judged_content : judgement contents ≡ v
       unfolding content_good
       judged_content = sym w
 
-      pub cached_content : (f : Fault) → v ≡ Refused f → RunRefused f ≡ cached_target s (record { values = vs; marks = ms }) flags guest vcpu inputLength output_length effect exit
-      cached_content f e = sym (past ∙ all_refused RunRefused there contents f (judged_content ∙ e))
+      pub cached_content : (f : Fault) → v ≡ Err f → Err f ≡ cached_target s (record { values = vs; marks = ms }) flags guest vcpu inputLength output_length effect exit
+      cached_content f e = sym (past ∙ all_refused Err there contents f (judged_content ∙ e))
 
-      pub cached_slot : v ≡ Admitted → Slot base n ≡ cached_target s (record { values = vs; marks = ms }) flags guest vcpu inputLength output_length effect exit
-      cached_slot e = sym (past ∙ all_admitted RunRefused there contents (judged_content ∙ e) ∙ at_slot.1)
+      pub cached_slot : v ≡ Ok tt → Ok t ≡ cached_target s (record { values = vs; marks = ms }) flags guest vcpu inputLength output_length effect exit
+      cached_slot e = sym (past ∙ all_admitted Err there contents (judged_content ∙ e) ∙ at_slot.1)
 
 -- ---- past the tests
 module _ (s vs ms input output effect : List ℕ) (flags guest vcpu exit : ℕ) where
@@ -240,7 +237,7 @@ module _ (s vs ms input output effect : List ℕ) (flags guest vcpu exit : ℕ) 
   abbrev size : ℕ
   size = input_size s (base_of (layout_of s) s false guest vcpu)
 
-  module _ (good : good_cache Full (record { values = vs; marks = ms }) ≡ true) (h : judgement (cached_tests (layout_of s) s (record { values = vs; marks = ms }) flags guest vcpu (length input) (length output) effect exit) ≡ Admitted) where
+  module _ (good : good_cache Full (record { values = vs; marks = ms }) ≡ true) (h : judgement (cached_tests (layout_of s) s (record { values = vs; marks = ms }) flags guest vcpu (length input) (length output) effect exit) ≡ Ok tt) where
     passed : Passed tests
     passed = judged_passed tests h
 
@@ -272,7 +269,7 @@ module _ (s vs ms input output effect : List ℕ) (flags guest vcpu exit : ℕ) 
         begins_first laid (message (pending own)) size (begins_put input (message (pending own)) (omega (arith, room, found.lent))) room
         (omega (arith, length_put input 0 (message (pending own)), found.lent))
 
-    walked : first_bad (context_of (layout_of s) s guest RunInput) (input_of s base laid) ≡ Done
+    walked : first_bad (context_of (layout_of s) s guest RunInput) (input_of s base laid) ≡ Ok tt
     walked = sent_good (context_of (layout_of s) s guest RunInput).offer own own_good (context_of (layout_of s) s guest RunInput) refl refl (input_of s base laid) begun
 
     pub run_accepted : run_vcpu (layout_of s) s flags guest vcpu (put input 0 (message (pending (record { values = vs; marks = ms })))) output effect exit
@@ -302,9 +299,37 @@ module _ (s vs ms input output effect : List ℕ) (flags guest vcpu exit : ℕ) 
         }
 
 -- ---- the answers of the run
-module _ (s vs ms input output effect : List ℕ) (flags guest vcpu pvr exit : ℕ) (o : Offer) (eo : o ≡ offer_of pvr) (t : Bool) (g : t ≡ good_cache o (record { values = vs; marks = ms })) where
+-- of lent slices of another length
+module _ (s vs ms input output effect : List ℕ) (flags guest vcpu pvr exit : ℕ) (r : Answer) (i : r ≡ refusal CacheBad) where
+  none_run : good_cache (offer_of pvr) (record { values = vs; marks = ms }) ≡ false
+      → ◌≡◌ {A = RunOutcome} (record { answer = r; store = s; cache = record { values = vs; marks = ms }; input = input; output = output }) (run_cache (layout_of s) s (record { values = vs; marks = ms }) flags guest vcpu pvr input output effect exit)
+  unfolding run_cache
+  none_run g =
+      let c : Cache = record { values = vs; marks = ms } in
+      let refused : Fault → RunOutcome = λ f. record { answer = refusal f; store = s; cache = c; input = input; output = output } in
+      let laid = put input 0 (message (pending c)) in
+      ap (λ (y : Answer). record { answer = y; store = s; cache = c; input = input; output = output }) i
+      ∙ sym (ap (λ (t : Bool). cond (not t) (refused CacheBad) (first_of refused (cached_tests (layout_of s) s c flags guest vcpu (length input) (length output) effect exit) (ran_with c laid (run_vcpu (layout_of s) s flags guest vcpu laid output effect exit)))) g)
+
+  pub run_short_values : (length vs ≡ 1820 → ⊥)
+      → ◌≡◌ {A = RunOutcome} (record { answer = r; store = s; cache = record { values = vs; marks = ms }; input = input; output = output }) (run_cache (layout_of s) s (record { values = vs; marks = ms }) flags guest vcpu pvr input output effect exit)
+  run_short_values n = none_run (short_values (offer_of pvr) vs ms n)
+
+  pub run_short_marks : (length ms ≡ 6 → ⊥)
+      → ◌≡◌ {A = RunOutcome} (record { answer = r; store = s; cache = record { values = vs; marks = ms }; input = input; output = output }) (run_cache (layout_of s) s (record { values = vs; marks = ms }) flags guest vcpu pvr input output effect exit)
+  run_short_marks n = none_run (short_marks (offer_of pvr) vs ms n)
+
+-- of two arrays, us and ns, which are the whole slices
+pub run_whole : (s vs ms us ns input output effect : List ℕ) (flags guest vcpu pvr exit : ℕ) (o : RunOutcome) → IsWholeChunk vs us 1820 → IsWholeChunk ms ns 6
+    → o ≡ run_cache (layout_of s) s (record { values = us; marks = ns }) flags guest vcpu pvr input output effect exit → o ≡ run_cache (layout_of s) s (record { values = vs; marks = ms }) flags guest vcpu pvr input output effect exit
+run_whole s vs ms us ns input output effect flags guest vcpu pvr exit o p w e = e ∙ ap₂ (λ (x z : List ℕ). run_cache (layout_of s) s (record { values = x; marks = z }) flags guest vcpu pvr input output effect exit) p.same w.same
+
+module _ (s vs ms input output effect : List ℕ) (flags guest vcpu pvr exit : ℕ) (i : length vs ≡ 1820) (j : length ms ≡ 6) (o : Offer) (eo : o ≡ offer_of pvr) (t : Bool) (z : t ≡ good_marks o ms) where
   abbrev before : Cache
   before = record { values = vs; marks = ms }
+
+  g : t ≡ good_cache o (record { values = vs; marks = ms })
+  g = z ∙ sym (good_words o vs ms i j)
 
   abbrev refusedRun : Fault → RunOutcome
   refusedRun f = record { answer = refusal f; store = s; cache = before; input = input; output = output }
@@ -319,42 +344,38 @@ module _ (s vs ms input output effect : List ℕ) (flags guest vcpu pvr exit : �
   unfolding run_cache
   run_as b e = ap (λ (x : Bool). cond (not x) (refusedRun CacheBad) (first_of refusedRun judgements goneOn)) (ap (λ (x : Offer). good_cache x before) (sym eo) ∙ sym g ∙ e)
 
-  pub run_malformed : not t ≡ true → (r : Answer) → r ≡ refusal CacheBad
-      → ◌≡◌ {A = RunOutcome} (record { answer = r; store = s; cache = record { values = vs; marks = ms }; input = input; output = output }) (run_cache (layout_of s) s (record { values = vs; marks = ms }) flags guest vcpu pvr input output effect exit)
-  run_malformed n r i = ap (λ (x : Answer). record { answer = x; store = s; cache = before; input = input; output = output }) i ∙ sym (run_as false (not-true t n))
+  pub run_malformed : not t ≡ true
+      → ◌≡◌ {A = RunOutcome} (record { answer = refusal CacheBad; store = s; cache = record { values = vs; marks = ms }; input = input; output = output }) (run_cache (layout_of s) s (record { values = vs; marks = ms }) flags guest vcpu pvr input output effect exit)
+  run_malformed n = sym (run_as false (not-true t n))
 
   module _ (n : not t ≡ false) where
     pub run_full : good_cache Full (record { values = vs; marks = ms }) ≡ true
     run_full = good_full o before (sym g ∙ not-false t n)
 
-    module _ (a : RunTarget) (q : a ≡ cached_target s (record { values = vs; marks = ms }) flags guest vcpu (length input) (length output) effect exit) where
-      abbrev slot : RunTarget
-      slot = Slot (base_of (layout_of s) s false guest vcpu) (input_size s (base_of (layout_of s) s false guest vcpu))
+    module _ (a : Result RunTarget Fault) (q : a ≡ cached_target s (record { values = vs; marks = ms }) flags guest vcpu (length input) (length output) effect exit) where
+      abbrev slot : Result RunTarget Fault
+      slot = Ok (target_at s (base_of (layout_of s) s false guest vcpu))
 
-      pub run_refused : (f : Fault) → a ≡ RunRefused f → (r : Answer) → r ≡ refusal f
-          → ◌≡◌ {A = RunOutcome} (record { answer = r; store = s; cache = record { values = vs; marks = ms }; input = input; output = output }) (run_cache (layout_of s) s (record { values = vs; marks = ms }) flags guest vcpu pvr input output effect exit)
+      pub run_refused : (f : Fault) → a ≡ Err f
+          → ◌≡◌ {A = RunOutcome} (record { answer = refusal f; store = s; cache = record { values = vs; marks = ms }; input = input; output = output }) (run_cache (layout_of s) s (record { values = vs; marks = ms }) flags guest vcpu pvr input output effect exit)
       unfolding cached_target
-      run_refused f h r i =
-          ap (λ (x : Answer). record { answer = x; store = s; cache = before; input = input; output = output }) i
-          ∙ sym (run_as true (not-false t n) ∙ all_refused refusedRun goneOn judgements f (was_refused RunRefused run_refused_same slot run_refused_not judgements f (sym q ∙ h)))
+      run_refused f h =
+          sym (run_as true (not-false t n) ∙ all_refused refusedRun goneOn judgements f (was_refused Err run_refused_same slot run_refused_not judgements f (sym q ∙ h)))
 
-      module _ (base size : ℕ) (h : a ≡ Slot base size) where
-        at : (judgement judgements ≡ Admitted) × (slot ≡ Slot base size)
+      module _ (x : RunTarget) (h : a ≡ Ok x) where
+        at : (judgement judgements ≡ Ok tt) × (slot ≡ Ok x)
         unfolding cached_target
-        at = was_admitted RunRefused run_refused_same slot run_refused_not judgements (Slot base size) slot_not (sym q ∙ h)
+        at = was_admitted Err run_refused_same slot run_refused_not judgements (Ok x) slot_not (sym q ∙ h)
 
-        pub run_sendable : Sendable s base size (record { values = vs; marks = ms }) input output effect exit
+        pub run_sendable : Sendable s x.base x.size (record { values = vs; marks = ms }) input output effect exit
         run_sendable =
-            let e = slot_same at.1 in
-            subst (λ (x : ℕ). Sendable s x size before input output effect exit) e.0
-            (subst (λ (y : ℕ). Sendable s (base_of (layout_of s) s false guest vcpu) y before input output effect exit) e.1 (sendable s vs ms input output effect flags guest vcpu exit run_full at.0))
+            subst (λ (y : RunTarget). Sendable s y.base y.size before input output effect exit) (target_same at.1) (sendable s vs ms input output effect flags guest vcpu exit run_full at.0)
 
-        pub run_sent : (x : RunOutcome) → x ≡ sent s base size (record { values = vs; marks = ms }) input output effect exit → x ≡ run_cache (layout_of s) s (record { values = vs; marks = ms }) flags guest vcpu pvr input output effect exit
+        pub run_sent : (r : RunOutcome) → r ≡ sent s x.base x.size (record { values = vs; marks = ms }) input output effect exit → r ≡ run_cache (layout_of s) s (record { values = vs; marks = ms }) flags guest vcpu pvr input output effect exit
         unfolding sent
-        run_sent x i =
-            let e = slot_same at.1 in
+        run_sent r i =
             let laid = put input 0 (message (pending before)) in
-            i ∙ ap₂ (λ (y z : ℕ). ran_with before laid (ran y s (bytes_at laid 0 z) output effect exit)) (sym e.0) (sym e.1)
+            i ∙ ap (λ (y : RunTarget). ran_with before laid (ran y.base s (bytes_at laid 0 y.size) output effect exit)) (sym (target_same at.1))
             ∙ ap (ran_with before laid) (sym (run_accepted s vs ms input output effect flags guest vcpu exit run_full at.0))
             ∙ sym (run_as true (not-false t n) ∙ all_admitted refusedRun goneOn judgements at.0)
 
@@ -362,12 +383,6 @@ module _ (s vs ms input output effect : List ℕ) (flags guest vcpu pvr exit : �
 module _ (s : List ℕ) (base size : ℕ) (vs ms input output effect : List ℕ) (exit : ℕ) (p : Sendable s base size (record { values = vs; marks = ms }) input output effect exit) where
   abbrev held : Cache
   held = record { values = vs; marks = ms }
-
-  pub send_long : length vs ≡ 1820
-  send_long = values_long Full vs ms true (sym p.good) refl
-
-  pub send_six : length ms ≡ 6
-  send_six = marks_long Full vs ms true (sym p.good) refl
 
   pub laid_fits : length (message (pending (record { values = vs; marks = ms }))) ≤ length input
   laid_fits = omega (arith, p.fits, p.lent)
@@ -400,12 +415,12 @@ module _ (s : List ℕ) (base size : ℕ) (vs ms input output effect : List ℕ)
             (subst (λ (y : List ℕ). Begins y (message (valued base u (returned exit)))) (sym ev)
             (begins_put output (output_of base u exit) (omega (arith, length_output base u exit slot_room, output_short exit, p.out))))
 
-        pub send_left : (us ns : List ℕ) (r : Answer) → ◌≡◌ {A = Cache} (record { values = us; marks = ns }) (refreshed (record { values = vs; marks = ms }) v) → r ≡ success exit
-            → ◌≡◌ {A = RunOutcome} (record { answer = r; store = u; cache = record { values = us; marks = ns }; input = x; output = v }) (sent s base size (record { values = vs; marks = ms }) input output effect exit)
+        pub send_left : (us ns : List ℕ) → ◌≡◌ {A = Cache} (record { values = us; marks = ns }) (refreshed (record { values = vs; marks = ms }) v)
+            → ◌≡◌ {A = RunOutcome} (record { answer = success exit; store = u; cache = record { values = us; marks = ns }; input = x; output = v }) (sent s base size (record { values = vs; marks = ms }) input output effect exit)
         unfolding sent ran_with ran ran_store
-        send_left us ns r e i =
+        send_left us ns e =
             let w : u ≡ applied base effect (count_of effect) (applied base part (count_of part) s) = eu ∙ ap (applied base effect (count_of effect)) et in
-            ap₂ (λ (a : Answer) (d : Cache). record { answer = a; store = u; cache = d; input = x; output = v }) i e
+            ap (λ (d : Cache). record { answer = success exit; store = u; cache = d; input = x; output = v }) e
             ∙ ap (λ (y : List ℕ). record { answer = success exit; store = u; cache = refreshed held y; input = x; output = y }) ev
             ∙ ap (λ (y : List ℕ). ran_with held x (record { answer = success exit; store = y; buffer = put output 0 (output_of base y exit) })) w
             ∙ ap (λ (y : List ℕ). ran_with held x (ran base s y output effect exit)) lp

@@ -9,7 +9,6 @@ use lib.ListN.{length}
 use borrow.Author.Tests.{eq-eqb}
 use Rattle.rules.specs.declared.Usage.TheVariants.{RunInput}
 use Rattle.rules.specs.declared.Context.{Context}
-use Rattle.gsb.specs.declared.Walked.TheVariants.{Done}
 use Rattle.gsb.specs.Walk.{first_bad}
 use Rattle.gsb.specs.Message.{message, Begins, nth_id, nth_value, Wire}
 use Rattle.gsb.proofs.RoundTrip.{wire_nil, wire_cons, listed_fits, input_good_lem}
@@ -18,6 +17,7 @@ use Rattle.elements.specs.declared.Offer.{Offer}
 use Rattle.l1.specs.Marks.{allowed, is_input}
 use Rattle.l1.specs.Cache.{Fit}
 use Rattle.l1.proofs.Cells.{element_size, named_fits, allowed_as, input_named, input_allowed}
+use Rattle.std.proofs.Common.{Ok}
 
 pub fit_append : (o : Offer) (xs ys : List (ℕ × List ℕ)) → Fit o xs → Fit o ys → Fit o (xs ++ ys)
 fit_append o [] ys f h = h
@@ -36,7 +36,7 @@ fit_at o [] f i h = absurd (not-suc-le-zero h)
 fit_at o (e ∷ es) f zero h = (f.0, f.1)
 fit_at o (e ∷ es) f (suc i) h = fit_at o es f.2 i (le_of_suc-le-suc h)
 
-pub fit_good : (k : Context) → k.usage ≡ RunInput → (es : List (ℕ × List ℕ)) (b : List ℕ) → Fit k.offer es → length es ≤ 170 → Begins b (message es) → first_bad k b ≡ Done
+pub fit_good : (k : Context) → k.usage ≡ RunInput → (es : List (ℕ × List ℕ)) (b : List ℕ) → Fit k.offer es → length es ≤ 170 → Begins b (message es) → first_bad k b ≡ Ok tt
 fit_good k u es b f h s =
     input_good_lem es b (fit_wire k.offer es f h) s k
     (λ i c. allowed_as k (nth_id es i) ∙ ap (λ (x : _). allowed k.offer x (nth_id es i)) u ∙ input_allowed k.offer (nth_id es i) (fit_at k.offer es f i c).0)

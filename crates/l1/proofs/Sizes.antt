@@ -40,9 +40,9 @@ sizes_listed (suc (suc zero)) h = (refl, refl, refl)
 sizes_listed (suc (suc (suc k))) h = absurd (omega arith)
 
 -- ---- one word
-pub word_few : (m : List ℕ) (k : ℕ) → get_or m (3 + k) 0 < 2 ^ 64
-    → (ones (bit_and (get_or m (3 + k) 0) (get_or fours k 0)) ≤ 64) × (ones (bit_and (get_or m (3 + k) 0) (get_or eights k 0)) ≤ 64) × (ones (bit_and (get_or m (3 + k) 0) (get_or sixteens k 0)) ≤ 64)
-word_few m k f = let w = get_or m (3 + k) 0 in (marks_few w (get_or fours k 0) f, marks_few w (get_or eights k 0) f, marks_few w (get_or sixteens k 0) f)
+pub word_small : (m : List ℕ) (k : ℕ) → get_or m (3 + k) 0 < 2 ^ 64
+    → 8 * ones (bit_and (get_or m (3 + k) 0) (get_or fours k 0)) + 12 * ones (bit_and (get_or m (3 + k) 0) (get_or eights k 0)) + 20 * ones (bit_and (get_or m (3 + k) 0) (get_or sixteens k 0)) ≤ 2560
+word_small m k f = let w = get_or m (3 + k) 0 in omega (arith, marks_few w (get_or fours k 0) f, marks_few w (get_or eights k 0) f, marks_few w (get_or sixteens k 0) f)
 
 module _ (m : List ℕ) (k : ℕ) (h : k < 3) (f : get_or m (3 + k) 0 < 2 ^ 64) where
   counted : (n w : ℕ) → w ≡ mask (has_size n) 64 (64 * k) → ones (bit_and (get_or m (3 + k) 0) w) ≡ sized_in (is_changed m) n k

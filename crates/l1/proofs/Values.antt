@@ -7,7 +7,9 @@ use Prim.Native.Nat.{ℕ, ◌+◌, ◌≤◌, ◌<◌}
 use native.Mathlib.Omega.{arith}
 use lib.Dec.{T, eqb, ltb}
 use lib.ListN.{length}
-use borrow.Author.Tests.{eq-eqb, ne_eqb, eqb-true, lt-ltb, le-ltb, not-true, not-false}
+use borrow.Author.Tests.{ne_eqb, eqb-true}
+use Rattle.std.specs.Array.{IsWholeChunk}
+use Rattle.std.specs.Prelude.{Option, Some, None, Result, Ok, Err}
 use Rattle.octets.specs.Bytes.{bytes_at, put}
 use Rattle.octets.proofs.Bytes.{whole}
 use Rattle.answer.specs.declared.Bad.TheVariants.{Id, Size}
@@ -23,7 +25,7 @@ use Rattle.elements.specs.declared.Entry.{Entry}
 use Rattle.elements.specs.declared.Cell.{Cell}
 use Rattle.elements.specs.Table.{table, below, position, source_of, find, kind_of, number_of, numbered, thread_element}
 use Rattle.elements.specs.Later.{offer_of, offers}
-use Rattle.elements.specs.Cells.{cell_of, no_cell, register_cell}
+use Rattle.elements.specs.Cells.{cell_of, register_cell}
 use Rattle.rules.specs.Rules.{allows, permits}
 use Rattle.elements.specs.Right.{every_entry}
 use Rattle.elements.proofs.Table.{Numbered, element_number, position_end, thread_stored, size_bound}
@@ -32,14 +34,11 @@ use Rattle.rules.proofs.Lists.{permits_by}
 use Rattle.exits.specs.Exits.{element_of}
 use Rattle.store.specs.Search.{every}
 use Rattle.store.proofs.Search.{both, no_bool, every_at}
-use Rattle.admission.specs.declared.Admission.{Admission}
-use Rattle.admission.specs.declared.Admission.TheVariants.{Admitted, Refused}
-use Rattle.admission.specs.Refusals.{success, refusal, judgement, Passed}
-use Rattle.admission.proofs.Judging.{judged_passed, all_refused, all_admitted}
+use Rattle.admission.specs.Refusals.{success, refusal}
 use Rattle.l1.specs.Marks.{Cache, with_mark, allowed, is_input, is_readable, is_special, good_cache}
-use Rattle.l1.specs.Cache.{place_zero, WriteOutcome, change, write_cache, keep}
-use Rattle.l1.specs.Private.{cell_if, Sized, Within, kept_at, changed_at, element_tests, element_good}
-use Rattle.l1.proofs.Marking.{input_nop, input_as, readable_nop, readable_input, readable_output, readable_as, values_long, marks_long}
+use Rattle.l1.specs.Cache.{place_zero, value_tests, WriteOutcome, change, write_cache, keep}
+use Rattle.l1.specs.Private.{good_marks, cell_if, Sized, Within, kept_at, changed_at, element_tests, cell_good, element_good}
+use Rattle.l1.proofs.Marking.{input_nop, input_as, readable_nop, readable_input, readable_output, readable_as, short_values, short_marks, good_words}
 use Rattle.l1.proofs.Cells.{Named, named_number, input_named}
 
 -- what a list permits is what 01's permits and the list has
@@ -111,138 +110,112 @@ readables_all : T (every_entry (λ (i : ℕ) (x : Entry). not (in_reach i) || (e
 unfolding is_readable permits allows offers kind_of find table source_of position below
 readables_all = tt
 
-module _ (id : ℕ) (x : Cell) where
-  cell_as : (good : Bool) → x ≡ cell_of id → good ≡ true → x ≡ cell_if good id
-  unfolding cell_if
-  cell_as good e g = e ∙ sym (ap (λ (t : Bool). cond t (cell_of id) no_cell) g)
+-- what is named is the cell of the ID, or none
+named : (id : ℕ) (x : Cell) (good : Bool) → x ≡ cell_of id → good ≡ true → Some x ≡ cell_if good id
+unfolding cell_if
+named id x good e g = ap Some e ∙ sym (ap (λ (t : Bool). cond t (Some (cell_of id)) None) g)
 
-  module _ (e : x ≡ register_cell id) (n : x.size ≡ 0 → ⊥) (o : Offer) (t : Bool) (f : t ≡ offers o id) where
-    pub cell_input : t ≡ true → x ≡ cell_if (is_input o id) id
-    cell_input q =
-        cell_as (is_input o id) (cell_known id x e n)
-        (input_by o id ∙ ap₂ (λ (a b : Bool). a && b) (cell_rule id x e n (is_input Full) inputs_all) (sym f ∙ q))
+unnamed : (id : ℕ) (good : Bool) → good ≡ false → None ≡ cell_if good id
+unfolding cell_if
+unnamed id good g = sym (ap (λ (t : Bool). cond t (Some (cell_of id)) None) g)
 
-    pub cell_readable : t ≡ true → (id ≡ 0x103A → ⊥) → x ≡ cell_if (is_readable o id) id
-    cell_readable q p =
-        cell_as (is_readable o id) (cell_known id x e n)
-        (readable_by o id ∙ ap₂ (λ (a b : Bool). a && b)
-        (ap (λ (b : Bool). b || is_readable Full id) (sym (ne_eqb id 0x103A p)) ∙ cell_rule id x e n (λ i. eqb i 0x103A || is_readable Full i) readables_all) (sym f ∙ q))
+module _ (id : ℕ) (x : Cell) (e : Some x ≡ register_cell id) (o : Offer) (f : offers o id ≡ true) where
+  pub cell_input : Some x ≡ cell_if (is_input o id) id
+  cell_input =
+      named id x (is_input o id) (cell_known id x e)
+      (input_by o id ∙ ap₂ (λ (a b : Bool). a && b) (cell_rule id x e (is_input Full) inputs_all) f)
 
-  pub cell_listed : (t good : Bool) → t ≡ good → not t ≡ false → x ≡ cell_of id → x ≡ cell_if good id
-  cell_listed t good g n e = cell_as good e (sym g ∙ not-false t n)
+  pub cell_readable : (id ≡ 0x103A → ⊥) → Some x ≡ cell_if (is_readable o id) id
+  cell_readable p =
+      named id x (is_readable o id) (cell_known id x e)
+      (readable_by o id ∙ ap₂ (λ (a b : Bool). a && b)
+      (ap (λ (b : Bool). b || is_readable Full id) (sym (ne_eqb id 0x103A p)) ∙ cell_rule id x e (λ i. eqb i 0x103A || is_readable Full i) readables_all) f)
 
-  -- by the table, past the IDs that the operation never takes
-  pub cell_other : (o : Offer) → x ≡ cell_if (allowed o RunInput id) id → (id ≡ 0 → ⊥) → x ≡ cell_if (is_input o id) id
-  cell_other o e n = e ∙ ap (λ (t : Bool). cell_if t id) (sym (input_as o id n))
+-- by the table, past the IDs that the operation never takes
+pub cell_other : (o : Offer) (id : ℕ) → (id ≡ 0 → ⊥) → cell_if (allowed o RunInput id) id ≡ cell_if (is_input o id) id
+cell_other o id n = ap (λ (t : Bool). cell_if t id) (sym (input_as o id n))
 
-  pub cell_given : (o : Offer) → x ≡ cell_if (allowed o ThreadGet id) id → (id ≡ 0 → ⊥) → (id ≡ 0x0C00 → ⊥) → (id ≡ 0x0C01 → ⊥) → x ≡ cell_if (is_readable o id) id
-  cell_given o e n i p = e ∙ ap (λ (t : Bool). cell_if t id) (sym (readable_as o id n i p))
+pub cell_given : (o : Offer) (id : ℕ) → (id ≡ 0 → ⊥) → (id ≡ 0x0C00 → ⊥) → (id ≡ 0x0C01 → ⊥) → cell_if (allowed o ThreadGet id) id ≡ cell_if (is_readable o id) id
+cell_given o id n i p = ap (λ (t : Bool). cell_if t id) (sym (readable_as o id n i p))
 
-module _ (id : ℕ) where
-  no_cell_lem : (good : Bool) → good ≡ false → no_cell ≡ cell_if good id
-  unfolding cell_if
-  no_cell_lem good g = sym (ap (λ (t : Bool). cond t (cell_of id) no_cell) g)
+pub cell_listed : (id : ℕ) (x : Cell) (good : Bool) → x ≡ cell_of id → good ≡ true → Some x ≡ cell_if good id
+cell_listed id x good e g = named id x good e g
 
-  pub cell_not : (t good : Bool) → t ≡ good → not t ≡ true → no_cell ≡ cell_if good id
-  cell_not t good g n = no_cell_lem good (sym g ∙ not-true t n)
+pub cell_not : (id : ℕ) (good : Bool) → good ≡ false → None ≡ cell_if good id
+cell_not id good g = unnamed id good g
 
-  module _ (o : Offer) where
-    pub cell_input_nop : id ≡ 0 → no_cell ≡ cell_if (is_input o id) id
-    cell_input_nop e = no_cell_lem (is_input o id) (input_nop o id e)
+pub cell_input_nop : (o : Offer) (id : ℕ) → id ≡ 0 → None ≡ cell_if (is_input o id) id
+cell_input_nop o id e = unnamed id (is_input o id) (input_nop o id e)
 
-    pub cell_nop : id ≡ 0 → no_cell ≡ cell_if (is_readable o id) id
-    cell_nop e = no_cell_lem (is_readable o id) (readable_nop o id e)
+pub cell_nop : (o : Offer) (id : ℕ) → id ≡ 0 → None ≡ cell_if (is_readable o id) id
+cell_nop o id e = unnamed id (is_readable o id) (readable_nop o id e)
 
-    pub cell_run_input : id ≡ 0x0C00 → no_cell ≡ cell_if (is_readable o id) id
-    cell_run_input e = no_cell_lem (is_readable o id) (readable_input o id e)
+pub cell_run_input : (o : Offer) (id : ℕ) → id ≡ 0x0C00 → None ≡ cell_if (is_readable o id) id
+cell_run_input o id e = unnamed id (is_readable o id) (readable_input o id e)
 
-    pub cell_run_output : id ≡ 0x0C01 → no_cell ≡ cell_if (is_readable o id) id
-    cell_run_output e = no_cell_lem (is_readable o id) (readable_output o id e)
+pub cell_run_output : (o : Offer) (id : ℕ) → id ≡ 0x0C01 → None ≡ cell_if (is_readable o id) id
+cell_run_output o id e = unnamed id (is_readable o id) (readable_output o id e)
+
+pub ruleset by_table = (cell_listed, cell_not)
+
+pub ruleset by_input = (cell_input, cell_input_nop, cell_other)
+
+pub ruleset by_readable = (cell_readable, cell_nop, cell_run_input, cell_run_output, cell_given)
 
 -- ---- the tests of a write or a read
-module _ (o : Offer) (vs ms : List ℕ) (size : ℕ) (v : List ℕ) (c : Bool) (ec : c ≡ good_cache o (record { values = vs; marks = ms })) where
-  judged_by : Bool → Bool → Bool → Bool → Admission
-  judged_by x a z b = cond (not x) (Refused CacheBad) (cond a (Refused Length) (cond z (Refused (Element Id place_zero)) (cond (not b) (Refused (Element Size place_zero)) Admitted)))
+-- what is done after them, or what refuses
+abbrev pub on_tests : {A : Type 0} → (Fault → A) → A → Result Cell Fault → A
+on_tests refuse done (Ok x) = done
+on_tests refuse done (Err f) = refuse f
 
-  judged_as : (x a z b : Bool) → c ≡ x → ltb 65528 (length v) ≡ a → eqb size 0 ≡ z → eqb (length v) size ≡ b → judged_by x a z b ≡ element_good o (record { values = vs; marks = ms }) size v
-  unfolding judged_by element_good
-  judged_as x a z b p q r s = sym (ap₂ (λ (y t : Bool). judged_by y t (eqb size 0) (eqb (length v) size)) (sym ec ∙ p) q ∙ ap₂ (judged_by x a) r s)
-
-  pub element_cache : not c ≡ true → Refused CacheBad ≡ element_good o (record { values = vs; marks = ms }) size v
-  unfolding judged_by
-  element_cache n = judged_as false (ltb 65528 (length v)) (eqb size 0) (eqb (length v) size) (not-true c n) refl refl refl
-
-  module _ (n : not c ≡ false) where
-    pub element_long : 65528 < length v → Refused Length ≡ element_good o (record { values = vs; marks = ms }) size v
-    unfolding judged_by
-    element_long h = judged_as true true (eqb size 0) (eqb (length v) size) (not-false c n) (lt-ltb _ _ h) refl refl
-
-    module _ (h : length v ≤ 65528) where
-      pub element_id : size ≡ 0 → Refused (Element Id place_zero) ≡ element_good o (record { values = vs; marks = ms }) size v
-      unfolding judged_by
-      element_id z = judged_as true false true (eqb (length v) size) (not-false c n) (le-ltb _ _ h) (eq-eqb _ _ z) refl
-
-      module _ (z : size ≡ 0 → ⊥) where
-        pub element_size : (length v ≡ size → ⊥) → Refused (Element Size place_zero) ≡ element_good o (record { values = vs; marks = ms }) size v
-        unfolding judged_by
-        element_size k = judged_as true false false false (not-false c n) (le-ltb _ _ h) (ne_eqb _ _ z) (ne_eqb _ _ k)
-
-        pub element_good_lem : length v ≡ size → Admitted ≡ element_good o (record { values = vs; marks = ms }) size v
-        unfolding judged_by
-        element_good_lem q = judged_as true false false true (not-false c n) (le-ltb _ _ h) (ne_eqb _ _ z) (eq-eqb _ _ q)
-
--- by the size of the ID's cell they are those of the definition
-pub tests_same : (o : Offer) (c : Cache) (good : Bool) (id : ℕ) (x : Cell) (v : List ℕ) → x ≡ cell_if good id → (good ≡ true → Named id) → judgement (element_tests o c good id v) ≡ element_good o c x.size v
+-- by the ID's cell they are those of the definition, where the lengths are those of a cache
+pub tests_same : {A : Type 0} (refuse : Fault → A) (done : A) (o : Offer) (vs ms : List ℕ) → length vs ≡ 1820 → length ms ≡ 6 → (good : Bool) (id : ℕ) (v : List ℕ)
+    → first_of refuse (element_tests o (record { values = vs; marks = ms }) good id v) done ≡ on_tests refuse done (element_good o ms (cell_if good id) v)
 unfolding element_good cell_if cell_of
-tests_same o c good id x v e t = go good refl ∙ ap (λ (y : Cell). element_good o c y.size v) (sym e)
+tests_same {A} refuse done o vs ms l k good id v =
+    ap (λ (t : Bool). first_of refuse ((not t, CacheBad) ∷ value_tests good id v) done) (good_words o vs ms l k)
+    ∙ go (not (good_marks o ms)) (ltb 65528 (length v)) good
   where
-    go : (b : Bool) → good ≡ b → judgement (element_tests o c b id v) ≡ element_good o c (cell_if b id).size v
-    go true q =
-        let s : (element_of id).size ≡ 0 → ⊥ = λ z. some (named_within id (t q)).sized z in
-        ap (λ (z : Bool). judgement ((not (good_cache o c), CacheBad) ∷ (ltb 65528 (length v), Length) ∷ (z, Element Id place_zero) ∷ (not (eqb (length v) (element_of id).size), Element Size place_zero) ∷ [])) (sym (ne_eqb _ _ s))
-      where
-        some : Sized (cell_of id).size → (element_of id).size ≡ 0 → ⊥
-        some (inl a) z = omega arith
-        some (inr (inl a)) z = omega arith
-        some (inr (inr a)) z = omega arith
-    go false q = refl
+    last : (d : Bool) → cond (not d) (refuse (Element Size place_zero)) done ≡ on_tests refuse done (cond d (Ok (cell_of id)) (Err (Element Size place_zero)))
+    last true = refl
+    last false = refl
+
+    go : (a b g : Bool) → first_of refuse ((a, CacheBad) ∷ (b, Length) ∷ (not g, Element Id place_zero) ∷ (not (eqb (length v) (element_of id).size), Element Size place_zero) ∷ []) done
+        ≡ on_tests refuse done (first_of Err ((a, CacheBad) ∷ (b, Length) ∷ []) (cell_good (cond g (Some (cell_of id)) None) v))
+    go true b g = refl
+    go false true g = refl
+    go false false false = refl
+    go false false true = last (eqb (length v) (element_of id).size)
+
+pub whole_long : (vs us : List ℕ) (n : ℕ) → IsWholeChunk vs us n → length us ≡ n
+whole_long vs us n p = ap length p.same ∙ p.long
 
 -- what they say where none holds
-module _ (o : Offer) (vs ms : List ℕ) (good : Bool) (id : ℕ) (x : Cell) (v : List ℕ) (e : x ≡ cell_if good id) (a : Admission) (q : a ≡ element_good o (record { values = vs; marks = ms }) x.size v) (h : a ≡ Admitted) where
-  abbrev sizeTests : List (Bool × Fault)
-  sizeTests = (not (good_cache o (record { values = vs; marks = ms })), CacheBad) ∷ (ltb 65528 (length v), Length) ∷ (eqb x.size 0, Element Id place_zero) ∷ (not (eqb (length v) x.size), Element Size place_zero) ∷ []
+pub record Admitted (good : Bool) (id : ℕ) (x : Cell) (v : List ℕ) : Type 0 where
+  pub taken : good ≡ true
+  pub cell : x ≡ cell_of id
+  pub size : length v ≡ x.size
 
-  passed : Passed sizeTests
-  unfolding element_good
-  passed = judged_passed sizeTests (sym q ∙ h)
+pub admitted : (o : Offer) (ms : List ℕ) (good : Bool) (id : ℕ) (x : Cell) (v : List ℕ) (y : Option Cell) → y ≡ cell_if good id
+    → Ok x ≡ element_good o ms y v → Admitted good id x v
+unfolding element_good cell_if
+admitted o ms good id x v y e q =
+    go (good_marks o ms) (ltb 65528 (length v)) good refl
+    (q ∙ ap (λ (z : Option Cell). first_of Err ((not (good_marks o ms), CacheBad) ∷ (ltb 65528 (length v), Length) ∷ []) (cell_good z v)) e)
+  where
+    last : (d : Bool) → eqb (length v) (cell_of id).size ≡ d → Ok x ≡ cond d (Ok (cell_of id)) (Err (Element Size place_zero)) → (x ≡ cell_of id) × (length v ≡ x.size)
+    last true p w = let z : x ≡ cell_of id = cc w in (z, eqb-true _ _ p ∙ ap (λ (y : Cell). y.size) (sym z))
+    last false p w = absurd (cc w)
 
-  pub admitted_values : length vs ≡ 1820
-  admitted_values = values_long o vs ms _ refl passed.0
-
-  pub admitted_marks : length ms ≡ 6
-  admitted_marks = marks_long o vs ms _ refl passed.0
-
-  pub admitted_size : length v ≡ x.size
-  admitted_size = eqb-true _ _ (not-false _ passed.1.1.1.0)
-
-  pub admitted_good : good ≡ true
-  unfolding cell_if
-  admitted_good = go good refl
-    where
-      go : (b : Bool) → good ≡ b → good ≡ true
-      go true p = p
-      go false p =
-          let z : x ≡ no_cell = e ∙ ap (λ (t : Bool). cond t (cell_of id) no_cell) p in
-          absurd (no_bool (sym passed.1.1.0 ∙ ap (λ (y : Cell). eqb y.size 0) z))
-
-  pub admitted_cell : x ≡ cell_of id
-  unfolding cell_if
-  admitted_cell = e ∙ ap (λ (t : Bool). cond t (cell_of id) no_cell) admitted_good
+    go : (a b g : Bool) → good ≡ g → Ok x ≡ first_of Err ((not a, CacheBad) ∷ (b, Length) ∷ []) (cell_good (cond g (Some (cell_of id)) None) v) → Admitted good id x v
+    go false b g r w = absurd (cc w)
+    go true true g r w = absurd (cc w)
+    go true false false r w = absurd (cc w)
+    go true false true r w = let t = last (eqb (length v) (cell_of id).size) refl w in record { taken = r; cell = t.0; size = t.1 }
 
 -- of a write
-pub write_within : (o : Offer) (vs ms : List ℕ) (id : ℕ) (x : Cell) (v : List ℕ) → x ≡ cell_if (is_input o id) id → (a : Admission) → a ≡ element_good o (record { values = vs; marks = ms }) x.size v → a ≡ Admitted → Within x
-write_within o vs ms id x v e a q h =
-    subst Within (sym (admitted_cell o vs ms (is_input o id) id x v e a q h)) (named_within id (input_named o id (admitted_good o vs ms (is_input o id) id x v e a q h)))
+pub write_within : (o : Offer) (id : ℕ) (x : Cell) (v : List ℕ) → Admitted (is_input o id) id x v → Within x
+write_within o id x v a = subst Within (sym a.cell) (named_within id (input_named o id a.taken))
 
 -- ---- a value kept
 module _ (x : Cell) (w : Within x) where
@@ -291,9 +264,27 @@ pub four_fits : (size : ℕ) → Sized size → (size ≡ 8 → ⊥) → (size �
 four_fits size s a b i n h = omega (arith, sized_four size s a b)
 
 -- ---- a write
-module _ (pvr : ℕ) (vs ms : List ℕ) (id : ℕ) (v : List ℕ) (o : Offer) (eo : o ≡ offer_of pvr) (x : Cell) (e : x ≡ cell_if (is_input o id) id) (a : Admission) (q : a ≡ element_good o (record { values = vs; marks = ms }) x.size v) (r : Answer) where
+-- of lent slices of another length
+module _ (pvr : ℕ) (vs ms : List ℕ) (id : ℕ) (v : List ℕ) (r : Answer) (i : r ≡ refusal CacheBad) where
+  none_written : good_cache (offer_of pvr) (record { values = vs; marks = ms }) ≡ false
+      → ◌≡◌ {A = WriteOutcome} (record { answer = r; cache = record { values = vs; marks = ms } }) (write_cache pvr (record { values = vs; marks = ms }) id v)
+  unfolding write_cache
+  none_written g =
+      let c : Cache = record { values = vs; marks = ms } in
+      ap (λ (y : Answer). record { answer = y; cache = c }) i
+      ∙ sym (ap (λ (t : Bool). first_of (λ f. record { answer = refusal f; cache = c }) ((not t, CacheBad) ∷ value_tests (is_input (offer_of pvr) id) id v) (record { answer = success 0; cache = change c id v })) g)
+
+  pub write_short_values : (length vs ≡ 1820 → ⊥) → ◌≡◌ {A = WriteOutcome} (record { answer = r; cache = record { values = vs; marks = ms } }) (write_cache pvr (record { values = vs; marks = ms }) id v)
+  write_short_values n = none_written (short_values (offer_of pvr) vs ms n)
+
+  pub write_short_marks : (length ms ≡ 6 → ⊥) → ◌≡◌ {A = WriteOutcome} (record { answer = r; cache = record { values = vs; marks = ms } }) (write_cache pvr (record { values = vs; marks = ms }) id v)
+  write_short_marks n = none_written (short_marks (offer_of pvr) vs ms n)
+
+-- of two arrays, us and ns, which are the whole slices
+module _ (pvr : ℕ) (vs ms us ns : List ℕ) (p : IsWholeChunk vs us 1820) (w : IsWholeChunk ms ns 6) (id : ℕ) (v : List ℕ) (o : Offer) (eo : o ≡ offer_of pvr) (y : Option Cell)
+    (e : y ≡ cell_if (is_input o id) id) (a : Result Cell Fault) (q : a ≡ element_good o ns y v) (r : Answer) where
   abbrev before : Cache
-  before = record { values = vs; marks = ms }
+  before = record { values = us; marks = ns }
 
   abbrev wrote : WriteOutcome
   wrote = record { answer = success 0; cache = change before id v }
@@ -301,18 +292,19 @@ module _ (pvr : ℕ) (vs ms : List ℕ) (id : ℕ) (v : List ℕ) (o : Offer) (e
   abbrev refused : Fault → WriteOutcome
   refused f = record { answer = refusal f; cache = before }
 
-  write_as : write_cache pvr before id v ≡ first_of refused (element_tests o before (is_input o id) id v) wrote
+  write_as : write_cache pvr (record { values = vs; marks = ms }) id v ≡ on_tests refused wrote a
   unfolding write_cache
-  write_as = ap (λ (p : Offer). first_of refused (element_tests p before (is_input p id) id v) wrote) (sym eo)
+  write_as =
+      ap₂ (λ (x z : List ℕ). write_cache pvr (record { values = x; marks = z }) id v) (sym p.same) (sym w.same)
+      ∙ ap (λ (p : Offer). first_of refused (element_tests p before (is_input p id) id v) wrote) (sym eo)
+      ∙ tests_same refused wrote o us ns (whole_long vs us 1820 p) (whole_long ms ns 6 w) (is_input o id) id v
+      ∙ ap (on_tests refused wrote) (ap (λ (z : Option Cell). element_good o ns z v) (sym e) ∙ sym q)
 
-  judged : judgement (element_tests o before (is_input o id) id v) ≡ a
-  judged = tests_same o before (is_input o id) id x v e (input_named o id) ∙ sym q
+  pub write_bad : (f : Fault) → a ≡ Err f → r ≡ refusal f → ◌≡◌ {A = WriteOutcome} (record { answer = r; cache = record { values = us; marks = ns } }) (write_cache pvr (record { values = vs; marks = ms }) id v)
+  write_bad f h i = ap (λ (y : Answer). record { answer = y; cache = before }) i ∙ sym (write_as ∙ ap (on_tests refused wrote) h)
 
-  pub write_bad : (f : Fault) → a ≡ Refused f → r ≡ refusal f → ◌≡◌ {A = WriteOutcome} (record { answer = r; cache = record { values = vs; marks = ms } }) (write_cache pvr (record { values = vs; marks = ms }) id v)
-  write_bad f h i = ap (λ (y : Answer). record { answer = y; cache = before }) i ∙ sym (write_as ∙ all_refused refused wrote (element_tests o before (is_input o id) id v) f (judged ∙ h))
-
-  pub write_done : (us ns : List ℕ) → a ≡ Admitted → ◌≡◌ {A = Cache} (record { values = us; marks = ns }) (changed_at (record { values = vs; marks = ms }) x v) → r ≡ success 0
-      → ◌≡◌ {A = WriteOutcome} (record { answer = r; cache = record { values = us; marks = ns } }) (write_cache pvr (record { values = vs; marks = ms }) id v)
-  write_done us ns h k i =
-      ap₂ (λ (y : Answer) (d : Cache). record { answer = y; cache = d }) i (k ∙ changed_as before id x v (admitted_cell o vs ms (is_input o id) id x v e a q h))
-      ∙ sym (write_as ∙ all_admitted refused wrote (element_tests o before (is_input o id) id v) (judged ∙ h))
+  pub write_done : (x : Cell) (xs zs : List ℕ) → a ≡ Ok x → x ≡ cell_of id → ◌≡◌ {A = Cache} (record { values = xs; marks = zs }) (changed_at (record { values = us; marks = ns }) x v) → r ≡ success 0
+      → ◌≡◌ {A = WriteOutcome} (record { answer = r; cache = record { values = xs; marks = zs } }) (write_cache pvr (record { values = vs; marks = ms }) id v)
+  write_done x xs zs h c k i =
+      ap₂ (λ (y : Answer) (d : Cache). record { answer = y; cache = d }) i (k ∙ changed_as before id x v c)
+      ∙ sym (write_as ∙ ap (on_tests refused wrote) h)

@@ -18,7 +18,8 @@ use Rattle.store.specs.Search.{first, tally}
 use Rattle.store.proofs.Search.{found_first, tally_ext}
 use Rattle.l1.specs.declared.Mark.{Mark}
 use Rattle.l1.specs.Marks.{is_marked}
-use Rattle.l1.specs.Private.{is_changed, behind, top_mark, MarkFrom}
+use Rattle.std.specs.Prelude.{Option, Some, None}
+use Rattle.l1.specs.Private.{is_changed, behind, at_of, top_mark, MarkFrom}
 use Rattle.l1.proofs.Masks.{ones_mask, changed_mask}
 use Rattle.l1.proofs.Marking.{one_shifted}
 
@@ -99,7 +100,7 @@ first_skip p (suc d) (suc n) i h f =
     ap (λ (b : Bool). cond b i (first p n (i + 1))) (f i (omega arith) (omega arith)) ∙ first_skip p d n (i + 1) (omega arith) (λ j a b. f j (omega arith) (omega arith)) ∙ ap₂ (first p) x y
 
 module _ (m : List ℕ) (q k left : ℕ) (hq : q < 6) (hk : k < 64) (e : left ≡ get_or m q 0 % 2 ^ (64 - k)) where
-  pub word_hit : (left ≡ 0 → ⊥) → MarkFrom m (64 * q + k) (top_mark (64 * q) left)
+  pub word_hit : (left ≡ 0 → ⊥) → MarkFrom m (64 * q + k) (Some (top_mark (64 * q) left))
   word_hit n =
       record {
         at = sym (found_first (is_marked m) (384 - (64 * q + k)) (64 * q + k) (64 * q + z) (record {
@@ -111,6 +112,7 @@ module _ (m : List ℕ) (q k left : ℕ) (hq : q < 6) (hk : k < 64) (e : left �
         left = rest;
         above = omega (arith, top.from);
         within = omega (arith, top.within);
+        there = λ y s. omega (arith, top.within, ap at_of s);
       }
     where
       word : ℕ
@@ -153,22 +155,22 @@ module _ (m : List ℕ) (k i : ℕ) (same : first (is_marked m) (384 - 64 * k) (
   start : 64 * i + 0 ≡ 64 * i
   start = omega arith
 
-  from_start : (x : Mark) → k ≤ i → MarkFrom m (64 * i) x → MarkFrom m (64 * k) x
-  from_start x h y = record { at = y.at ∙ sym same; left = y.left; above = omega (arith, y.above); within = y.within }
+  from_start : (x : Option Mark) → k ≤ i → MarkFrom m (64 * i) x → MarkFrom m (64 * k) x
+  from_start x h y = record { at = y.at ∙ sym same; left = y.left; above = omega (arith, y.above); within = y.within; there = y.there }
 
-  pub from_hit : (x : Mark) → x ≡ top_mark (64 * i) (get_or m i 0) → k ≤ i → i < 6 → get_or m i 0 < 2 ^ 64 → (get_or m i 0 ≡ 0 → ⊥) → MarkFrom m (64 * k) x
+  pub from_hit : (x : Mark) → x ≡ top_mark (64 * i) (get_or m i 0) → k ≤ i → i < 6 → get_or m i 0 < 2 ^ 64 → (get_or m i 0 ≡ 0 → ⊥) → MarkFrom m (64 * k) (Some x)
   from_hit x e h l f n =
-      from_start x h (subst (MarkFrom m (64 * i)) (sym e) (subst (λ (j : ℕ). MarkFrom m j (top_mark (64 * i) (get_or m i 0))) start (word_hit m i 0 (get_or m i 0) l (lit< tt) (whole f) n)))
+      from_start (Some x) h (subst (λ (y : Mark). MarkFrom m (64 * i) (Some y)) (sym e) (subst (λ (j : ℕ). MarkFrom m j (Some (top_mark (64 * i) (get_or m i 0)))) start (word_hit m i 0 (get_or m i 0) l (lit< tt) (whole f) n)))
 
   pub from_miss : i < 6 → get_or m i 0 < 2 ^ 64 → get_or m i 0 ≡ 0 → first (is_marked m) (384 - 64 * k) (64 * k) ≡ first (is_marked m) (384 - 64 * (i + 1)) (64 * (i + 1))
   from_miss l f n = same ∙ ap (λ (j : ℕ). first (is_marked m) (384 - j) j) (sym start) ∙ word_miss m i 0 (get_or m i 0) l (lit< tt) (whole f) n
 
-  pub from_end : k ≤ i → i ≤ 6 → 6 ≤ i → length m ≡ 6 → MarkFrom m (64 * k) (record { at = 384; left = 0 })
+  pub from_end : k ≤ i → i ≤ 6 → 6 ≤ i → length m ≡ 6 → MarkFrom m (64 * k) None
   unfolding first
   from_end h a b l =
       let q : i ≡ 6 = omega arith in
-      from_start (record { at = 384; left = 0 }) h
-      (record { at = sym (ap (λ (j : ℕ). first (is_marked m) (384 - 64 * j) (64 * j)) q); left = sym (ap (λ (n : ℕ). n % 2 ^ 63) (past m l)); above = omega arith; within = omega arith })
+      from_start None h
+      (record { at = sym (ap (λ (j : ℕ). first (is_marked m) (384 - 64 * j) (64 * j)) q); left = sym (ap (λ (n : ℕ). n % 2 ^ 63) (past m l)); above = omega arith; within = omega arith; there = λ y s. absurd (cc s) })
     where
       past : (m : List ℕ) → length m ≡ 6 → get_or m 6 0 ≡ 0
       past m l = get_or-eq_default m 0 (omega arith)
@@ -178,21 +180,21 @@ module _ (m : List ℕ) (x : Mark) (h : x.at < 384) (e : x.left ≡ behind m x.a
   at_word : x.at - x.at % 64 ≡ 64 * (x.at / 64)
   at_word = omega arith
 
-  pub next_hit : (y : Mark) → y ≡ top_mark (x.at - x.at % 64) x.left → (x.left ≡ 0 → ⊥) → MarkFrom m (x.at + 1) y
+  pub next_hit : (y : Mark) → y ≡ top_mark (x.at - x.at % 64) x.left → (x.left ≡ 0 → ⊥) → MarkFrom m (x.at + 1) (Some y)
   next_hit y q n = go (dec_lt (x.at % 64) 63)
     where
-      go : Dec (x.at % 64 < 63) → MarkFrom m (x.at + 1) y
+      go : Dec (x.at % 64 < 63) → MarkFrom m (x.at + 1) (Some y)
       go (yes l) =
           let a : 64 - (x.at % 64 + 1) ≡ 63 - x.at % 64 = omega arith in
           let b : 64 * (x.at / 64) + (x.at % 64 + 1) ≡ x.at + 1 = omega arith in
           let f : x.left ≡ get_or m (x.at / 64) 0 % 2 ^ (64 - (x.at % 64 + 1)) = e ∙ ap (λ (j : ℕ). get_or m (x.at / 64) 0 % 2 ^ j) (sym a) in
-          subst (λ (j : ℕ). MarkFrom m j y) b (subst (MarkFrom m (64 * (x.at / 64) + (x.at % 64 + 1))) (sym (q ∙ ap (λ (j : ℕ). top_mark j x.left) at_word)) (word_hit m (x.at / 64) (x.at % 64 + 1) x.left (omega arith) (omega arith) f n))
+          subst (λ (j : ℕ). MarkFrom m j (Some y)) b (subst (λ (z : Mark). MarkFrom m (64 * (x.at / 64) + (x.at % 64 + 1)) (Some z)) (sym (q ∙ ap (λ (j : ℕ). top_mark j x.left) at_word)) (word_hit m (x.at / 64) (x.at % 64 + 1) x.left (omega arith) (omega arith) f n))
       go (no l) =
           let a : 63 - x.at % 64 ≡ 0 = omega arith in
           absurd (n (e ∙ ap (λ (j : ℕ). get_or m (x.at / 64) 0 % 2 ^ j) a ∙ mod-one (get_or m (x.at / 64) 0)))
 
-  pub next_miss : (y : Mark) → MarkFrom m (64 * (x.at / 64 + 1)) y → x.left ≡ 0 → MarkFrom m (x.at + 1) y
-  next_miss y f n = record { at = f.at ∙ sym (go (dec_lt (x.at % 64) 63)); left = f.left; above = omega (arith, f.above); within = f.within }
+  pub next_miss : (y : Option Mark) → MarkFrom m (64 * (x.at / 64 + 1)) y → x.left ≡ 0 → MarkFrom m (x.at + 1) y
+  next_miss y f n = record { at = f.at ∙ sym (go (dec_lt (x.at % 64) 63)); left = f.left; above = omega (arith, f.above); within = f.within; there = f.there }
     where
       go : Dec (x.at % 64 < 63) → first (is_marked m) (384 - (x.at + 1)) (x.at + 1) ≡ first (is_marked m) (384 - 64 * (x.at / 64 + 1)) (64 * (x.at / 64 + 1))
       go (yes l) =

@@ -9,11 +9,10 @@ ghost use Rattle.l1.specs.Marks.{is_readable};
 ghost use Rattle.l1.specs.Cache.{ReadOutcome, fetched, read_cache};
 ghost use Rattle.l1.specs.Private.{read_value};
 
-use super::marks::is_marked;
+use super::marks::{Marks, is_marked};
 use super::named::readable_cell;
-use super::value::{copy_value, judge_element, keep_value};
-use admission::Admission;
-use answer::{Answer, Call, refusal, registers_of, success};
+use super::value::{Values, copy_value, judge_element, keep_value};
+use answer::{Answer, Call, Fault, refusal, registers_of, success};
 use elements::{Cell, offer_of};
 use state::get_element;
 
@@ -28,13 +27,13 @@ fn fetch(
     store: &[u8],
     guest: u64,
     vcpu: u64,
-    values: &mut [u8],
-    marks: &mut [u64],
+    values: &mut Values,
+    marks: &mut Marks,
     id: u16,
     x: Cell,
     value: &mut [u8],
 ) -> Answer
-    requires { (is_readable Full id ≡ true) × (length values.old ≡ 1820) × (length marks.old ≡ 6) × (length value.old ≡ x.size) × (x ≡ cell_of id) }
+    requires { (is_readable Full id ≡ true) × (length value.old ≡ x.size) × (x ≡ cell_of id) }
     ensures { ◌≡◌ {A = ReadOutcome} (record { answer = result; cache = record { values = values.exit.now; marks = marks.new }; value = value.new }) (fetched (record { values = values.entry.now; marks = marks.old }) id (length value.old) (got_element (layout_of store.now) store.now guest vcpu id value.old)) }
 {
     let answer = get_element(store, guest, vcpu, id, value);
@@ -50,13 +49,13 @@ fn read_value(
     store: &[u8],
     guest: u64,
     vcpu: u64,
-    values: &mut [u8],
-    marks: &mut [u64],
+    values: &mut Values,
+    marks: &mut Marks,
     id: u16,
     x: Cell,
     value: &mut [u8],
 ) -> Answer
-    requires { (is_readable Full id ≡ true) × (length values.old ≡ 1820) × (length marks.old ≡ 6) × (length value.old ≡ x.size) × (x ≡ cell_of id) }
+    requires { (is_readable Full id ≡ true) × (length value.old ≡ x.size) × (x ≡ cell_of id) }
     ensures { ◌≡◌ {A = ReadOutcome} (record { answer = result; cache = record { values = values.exit.now; marks = marks.new }; value = value.new }) (read_value store.now guest vcpu (record { values = values.entry.now; marks = marks.old }) id value.old) }
 {
     if !is_marked(marks, x.number) {
@@ -78,11 +77,16 @@ pub fn read(
 ) -> Answer
     ensures { ◌≡◌ {A = ReadOutcome} (record { answer = result; cache = record { values = values.exit.now; marks = marks.new }; value = value.new }) (read_cache (layout_of store.now) store.now guest vcpu pvr (record { values = values.entry.now; marks = marks.old }) id value.old) }
 {
+    let Some(values) = values.as_mut_array() else {
+        return refusal(Fault::Cache);
+    };
+    let Some(marks) = marks.as_mut_array() else {
+        return refusal(Fault::Cache);
+    };
     let offer = offer_of(pvr);
-    let x = readable_cell(offer, id);
-    match judge_element(offer, values, marks, x.size, value) {
-        Admission::Refused(fault) => return refusal(fault),
-        Admission::Admitted => {}
+    let cell = readable_cell(offer, id);
+    match judge_element(offer, marks, cell, value) {
+        Ok(x) => read_value(store, guest, vcpu, values, marks, id, x, value),
+        Err(fault) => refusal(fault),
     }
-    read_value(store, guest, vcpu, values, marks, id, x, value)
 }

@@ -1,9 +1,10 @@
-// Whether a cache is well formed by a list.
+// Whether the marks of a cache are those of a well formed one, by a list.
 ghost use Rattle.std.specs.Prelude.{◌≡◌, [], ◌*◌, ◌<◌, length};
 ghost use Rattle.store.specs.Search.{every};
-ghost use Rattle.l1.specs.Marks.{mark_good, good_cache};
-ghost use Rattle.l1.specs.Private.{input_words};
+ghost use Rattle.l1.specs.Marks.{mark_good};
+ghost use Rattle.l1.specs.Private.{good_marks, input_words};
 
+use super::marks::Marks;
 use elements::Offer;
 
 // Word k of the marks that stand for an element, 0 to 169.
@@ -38,8 +39,8 @@ fn inputs_of(offer: Offer) -> [u64; 3]
 
 // The 64 marks of word k, valid and changed, at once: every write, read and run judges all 192. A word after the other: two in one
 // load would wait for the mark that the last write stored.
-fn word_good(offer: Offer, marks: &[u64], k: usize) -> bool
-    requires { (length marks.now ≡ 6) × (k < 3) }
+fn word_good(offer: Offer, marks: &Marks, k: usize) -> bool
+    requires { k < 3 }
     ensures { result ≡ every (mark_good offer (record { values = []; marks = marks.now })) 64 (64 * k) }
 {
     let inputs = inputs_of(offer);
@@ -50,29 +51,17 @@ fn word_good(offer: Offer, marks: &[u64], k: usize) -> bool
     beyond | unfit == 0
 }
 
-fn words_good(offer: Offer, marks: &[u64]) -> bool
-    requires { length marks.now ≡ 6 }
-    ensures { result ≡ every (mark_good offer (record { values = []; marks = marks.now })) 192 0 }
+#[tactic(auto, using(crate::proofs::Marking::words_first, crate::proofs::Marking::words_second, crate::proofs::Marking::words_third))]
+fn words_good(offer: Offer, marks: &Marks) -> bool
+    ensures { result ≡ good_marks offer marks.now }
 {
-    if !word_good(offer, marks, 0) {
-        return false;
-    }
-    if !word_good(offer, marks, 1) {
-        return false;
-    }
-    word_good(offer, marks, 2)
+    word_good(offer, marks, 0) && word_good(offer, marks, 1) && word_good(offer, marks, 2)
 }
 
 // For each list a copy of the test, in which its masks are known.
-pub fn good_cache(offer: Offer, values: &[u8], marks: &[u64]) -> bool
-    ensures { result ≡ good_cache offer (record { values = values.entry.now; marks = marks.now }) }
+pub fn good_marks(offer: Offer, marks: &Marks) -> bool
+    ensures { result ≡ good_marks offer marks.now }
 {
-    if values.len() != 1820 {
-        return false;
-    }
-    if marks.len() != 6 {
-        return false;
-    }
     match offer {
         Offer::Full => words_good(Offer::Full, marks),
         Offer::Power9 => words_good(Offer::Power9, marks),

@@ -15,7 +15,7 @@ pub use cache_read::read;
 pub use cache_write::write;
 pub use flush::run;
 
-// A mark, 384 where there is none, and the marks behind it in its word.
+// A mark, and the marks behind it in its word.
 #[derive(Clone, Copy)]
 pub struct Mark {
     pub at: usize,

@@ -16,13 +16,6 @@ const RUN_OUTPUT: u16 = 0x0C01;
 // The one register that is not read.
 const PPR: u16 = 0x103A;
 
-// For an ID that is not permitted.
-const NO_CELL: Cell = Cell {
-    number: 0,
-    size: 0,
-    position: 0,
-};
-
 fn allowed(offer: Offer, usage: Usage, id: u16) -> bool
     ensures { result ≡ allowed offer usage id }
 {
@@ -35,49 +28,37 @@ fn allowed(offer: Offer, usage: Usage, id: u16) -> bool
 }
 
 // An element that is no register, or that is one and not permitted: by the table.
-fn other_cell(offer: Offer, usage: Usage, id: u16) -> Cell
+#[tactic(auto, using(crate::proofs::Values::by_table))]
+fn other_cell(offer: Offer, usage: Usage, id: u16) -> Option<Cell>
     ensures { result ≡ cell_if (allowed offer usage id) id }
 {
-    if !allowed(offer, usage, id) {
-        return NO_CELL;
+    if allowed(offer, usage, id) {
+        Some(listed_cell(id))
+    } else {
+        None
     }
-    listed_cell(id)
 }
 
-pub fn input_cell(offer: Offer, id: u16) -> Cell
+#[tactic(auto, using(crate::proofs::Values::by_input))]
+pub fn input_cell(offer: Offer, id: u16) -> Option<Cell>
     ensures { result ≡ cell_if (is_input offer id) id }
 {
-    let x = register_cell(id);
-    if x.size != 0 {
-        if is_offered(offer, id) {
-            return x;
-        }
+    match register_cell(id) {
+        Some(x) if is_offered(offer, id) => Some(x),
+        _ if id == NOP => None,
+        _ => other_cell(offer, Usage::RunInput, id),
     }
-    if id == NOP {
-        return NO_CELL;
-    }
-    other_cell(offer, Usage::RunInput, id)
 }
 
-pub fn readable_cell(offer: Offer, id: u16) -> Cell
+#[tactic(auto, using(crate::proofs::Values::by_readable))]
+pub fn readable_cell(offer: Offer, id: u16) -> Option<Cell>
     ensures { result ≡ cell_if (is_readable offer id) id }
 {
-    let x = register_cell(id);
-    if x.size != 0 {
-        if id != PPR {
-            if is_offered(offer, id) {
-                return x;
-            }
-        }
+    match register_cell(id) {
+        Some(x) if id != PPR && is_offered(offer, id) => Some(x),
+        _ => match id {
+            NOP | RUN_INPUT | RUN_OUTPUT => None,
+            _ => other_cell(offer, Usage::ThreadGet, id),
+        },
     }
-    if id == NOP {
-        return NO_CELL;
-    }
-    if id == RUN_INPUT {
-        return NO_CELL;
-    }
-    if id == RUN_OUTPUT {
-        return NO_CELL;
-    }
-    other_cell(offer, Usage::ThreadGet, id)
 }

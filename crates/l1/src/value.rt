@@ -4,40 +4,43 @@ ghost use Rattle.octets.specs.Bytes.{bytes_at, put};
 ghost use Rattle.l1.specs.Marks.{Cache};
 ghost use Rattle.l1.specs.Private.{element_good, Sized, Within, kept_at, changed_at};
 
-use super::caches::good_cache;
-use super::marks::set_mark;
-use admission::Admission;
+use super::caches::good_marks;
+use super::marks::{Marks, set_mark};
 use answer::{Bad, Fault, Place};
 use elements::{Cell, Offer};
 use octets::copy;
 
-// 15, 5, 6 and 7; `size` is that of the element, 0 where the operation does not take the ID.
+// A call begins by a test that the lent bytes are so many. They and the marks go side by side: of a struct that holds both borrows
+// each contract would have to say besides that they are still the same two.
+pub type Values = [u8; 1820];
+
+// 15, 5, 6 and 7; the cell, if the operation takes the ID.
+#[tactic(auto, unfolding(crate::specs::Private::element_good))]
 pub fn judge_element(
     offer: Offer,
-    values: &[u8],
-    marks: &[u64],
-    size: usize,
+    marks: &Marks,
+    cell: Option<Cell>,
     value: &[u8],
-) -> Admission
-    ensures { result ≡ element_good offer (record { values = values.entry.now; marks = marks.now }) size value.now }
+) -> Result<Cell, Fault>
+    ensures { result ≡ element_good offer marks.now cell value.now }
 {
-    if !good_cache(offer, values, marks) {
-        return Admission::Refused(Fault::Cache);
+    if !good_marks(offer, marks) {
+        return Err(Fault::Cache);
     }
     if 65528 < value.len() {
-        return Admission::Refused(Fault::Length);
+        return Err(Fault::Length);
     }
     let first = Place {
         index: 0,
         offset: 0,
     };
-    if size == 0 {
-        return Admission::Refused(Fault::Element(Bad::Id, first));
+    let Some(x) = cell else {
+        return Err(Fault::Element(Bad::Id, first));
+    };
+    if value.len() != x.size {
+        return Err(Fault::Element(Bad::Size, first));
     }
-    if value.len() != size {
-        return Admission::Refused(Fault::Element(Bad::Size, first));
-    }
-    Admission::Admitted
+    Ok(x)
 }
 
 // A value of one of the three sizes that thread elements have: each copy is of a known size, and stands in line.
@@ -55,8 +58,8 @@ pub fn copy_value(src: &[u8], from: usize, dst: &mut [u8], to: usize, size: usiz
 }
 
 // The value stored, and valid.
-pub fn keep_value(values: &mut [u8], marks: &mut [u64], x: Cell, value: &[u8])
-    requires { Within x × (length values.old ≡ 1820) × (length marks.old ≡ 6) × (length value.now ≡ x.size) }
+pub fn keep_value(values: &mut Values, marks: &mut Marks, x: Cell, value: &[u8])
+    requires { Within x × (length value.now ≡ x.size) }
     ensures { ◌≡◌ {A = Cache} (record { values = values.exit.now; marks = marks.new }) (kept_at (record { values = values.entry.now; marks = marks.old }) x value.now) }
 {
     copy_value(value, 0, values, x.position, x.size);
@@ -64,8 +67,8 @@ pub fn keep_value(values: &mut [u8], marks: &mut [u64], x: Cell, value: &[u8])
 }
 
 // And changed.
-pub fn change_value(values: &mut [u8], marks: &mut [u64], x: Cell, value: &[u8])
-    requires { Within x × (length values.old ≡ 1820) × (length marks.old ≡ 6) × (length value.now ≡ x.size) }
+pub fn change_value(values: &mut Values, marks: &mut Marks, x: Cell, value: &[u8])
+    requires { Within x × (length value.now ≡ x.size) }
     ensures { ◌≡◌ {A = Cache} (record { values = values.exit.now; marks = marks.new }) (changed_at (record { values = values.entry.now; marks = marks.old }) x value.now) }
 {
     keep_value(values, marks, x, value);

@@ -3,7 +3,7 @@
 
 ghost use Rattle.std.specs.Io.{ReadsAtMost};
 
-use render::{ROOM, Rendered, render};
+use render::{ROOM, render};
 use std::io;
 use std::io::{Read, Write};
 
@@ -27,7 +27,7 @@ fn main(rt: HostRuntime) -> io::Result<()> {
     let mut input = [0u8; 65537];
     let mut text = [0u8; ROOM];
     let n = fill(&mut rt.stdin(), &mut input)?;
-    let Rendered::Text(len) = render(&input[..n], &mut text) else {
+    let Some(len) = render(&input[..n], &mut text) else {
         return Ok(());
     };
     rt.stdout().write_all(&text[..len])

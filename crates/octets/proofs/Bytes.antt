@@ -6,7 +6,8 @@ use native.Mathlib.Nat.{suc_inj, suc-ne-zero, add-zero}
 use native.Mathlib.Omega.{arith}
 use native.Mathlib.Decide.{dec_lt}
 use mathlib.Core.List.{List, [], ◌∷◌, ◌++◌, append_assoc}
-use lib.ListN.{length, get_or, set, take, drop, length-take, length-drop, length-replicate, replicate-append-replicate, drop_of_length-le}
+use borrow.Rule.Slice.PartMut.{put_mid}
+use lib.ListN.{length, get_or, set, take, drop, replicate, length-take, length-drop, length-replicate, drop_of_length-le}
 use lib.Seq.{sets, length-sets, sets-eq, set_comm, set-set, set-get_or, drop-set-lt, drop-set-add, take-set-le, take-set-lt, take_at, drop_at, take-add, take-take, take-length, length-take-le, drop-drop, drop-cons, get_or-take, get_or-drop, get_or-set_other, ext_get_or}
 use Rattle.octets.specs.Bytes.{bytes_at, put, zeros, Clear, left, right}
 
@@ -49,8 +50,30 @@ pub part_lent : (s : List ℕ) (i n : ℕ) → take n (drop i s) ≡ bytes_at s 
 unfolding bytes_at
 part_lent s i n = refl
 
-pub first_lent : (s : List ℕ) (n : ℕ) → take (n - 0) (drop 0 s) ≡ bytes_at s 0 n
-first_lent s n = let e : n - 0 ≡ n = omega arith in ap (λ (m : ℕ). take m (drop 0 s)) e ∙ part_lent s 0 n
+pub between_lent : (s : List ℕ) (i n : ℕ) → take (i + n - i) (drop i s) ≡ bytes_at s i n
+between_lent s i n = let e : i + n - i ≡ n = omega arith in ap (λ (m : ℕ). take m (drop i s)) e ∙ part_lent s i n
+
+pub first_lent : (s : List ℕ) (n : ℕ) → take n s ≡ bytes_at s 0 n
+first_lent s n = part_lent s 0 n
+
+-- a part that holds v now
+pub part_put : (s : List ℕ) (i n : ℕ) (v : List ℕ) → i + n ≤ length s → length v ≡ n → put_mid i (i + n - i) s v ≡ put s i v
+unfolding put
+part_put s i n v h e =
+    let k : i + n - i ≡ length v = omega arith in
+    let r : i + length v ≤ length s = omega arith in
+    ap (λ (m : ℕ). put_mid i m s v) k
+    ∙ ap (λ (l : List ℕ). take i s ++ (v ++ l)) (drop-drop (length v) i s)
+    ∙ sym (append_assoc (take i s) v (drop (i + length v) s))
+    ∙ sym (sets-eq v s i r)
+
+pub part_cleared : (s : List ℕ) (i n : ℕ) (v : List ℕ) → i + n ≤ length s → v ≡ replicate (length (take (i + n - i) (drop i s))) 0
+    → put_mid i (i + n - i) s v ≡ put s i (zeros n)
+unfolding zeros
+part_cleared s i n v h e =
+    let k : length (take (i + n - i) (drop i s)) ≡ n = ap (λ (l : List ℕ). length l) (between_lent s i n) ∙ length_bytes_at s i n h in
+    let w : v ≡ replicate n 0 = e ∙ ap (λ (m : ℕ). replicate m 0) k in
+    part_put s i n v h (ap (λ (l : List ℕ). length l) w ∙ length-replicate {A = ℕ} n 0) ∙ ap (put s i) w
 
 pub part_none : (s : List ℕ) (i : ℕ) → bytes_at s i 0 ≡ []
 unfolding bytes_at
@@ -215,15 +238,6 @@ put_more d to s from j h =
     ∙ ap (λ (v : List ℕ). put (put d to (bytes_at s from j)) (to + j) v) (sym (part_one s (from + j) h))
     ∙ put_part d to s from j 1 (omega arith)
 
--- a clearing loop's turn
-pub put_zeros : (d : List ℕ) (at j : ℕ) → set (put d at (zeros j)) (at + j) 0 ≡ put d at (zeros (j + 1))
-unfolding zeros
-put_zeros d at j =
-    sym (put_one (put d at (zeros j)) (at + j) 0)
-    ∙ ap (λ (k : ℕ). put (put d at (zeros j)) (at + k) (0 ∷ [])) (sym (length-replicate {A = ℕ} j 0))
-    ∙ sym (put_append d at (zeros j) (0 ∷ []))
-    ∙ ap (λ (v : List ℕ). put d at v) (replicate-append-replicate {A = ℕ} j 1 0)
-
 -- ---- the same in the form of the needs of a loop, x being the list as it is then
 
 module _ (d : List ℕ) (to : ℕ) (s : List ℕ) (from : ℕ) where
@@ -234,36 +248,14 @@ module _ (d : List ℕ) (to : ℕ) (s : List ℕ) (from : ℕ) where
       → y ≡ put x (to + j) (bytes_at s (from + j) m) → y ≡ put d to (bytes_at s from (j + m))
   copy_part x j y m p h q = q ∙ ap (λ (l : List ℕ). put l (to + j) (bytes_at s (from + j) m)) p ∙ put_part d to s from j m h
 
-  -- three pieces, of i, of j and of what is left
-  pub copy_pieces : (x y z : List ℕ) (i j n : ℕ) → x ≡ put d to (bytes_at s from i) → y ≡ put x (to + i) (bytes_at s (from + i) j)
-      → z ≡ put y (to + (i + j)) (bytes_at s (from + (i + j)) (n - (i + j))) → i ≤ n → j ≤ n - i → from + n ≤ length s
-      → z ≡ put d to (bytes_at s from n)
-  copy_pieces x y z i j n p q r l m h =
-      let e : i + j + (n - (i + j)) ≡ n = omega arith in
-      copy_part y (i + j) z (n - (i + j)) (copy_part x i y j p (omega arith) q) (omega arith) r
-      ∙ ap (λ (k : ℕ). put d to (bytes_at s from k)) e
+  -- two pieces, of k bytes and of what is left of n
+  pub copy_two : (k m n : ℕ) (x y : List ℕ) → from + n ≤ length s → k + m ≡ n → x ≡ put d to (bytes_at s from k)
+      → y ≡ put x (to + k) (bytes_at s (from + k) m) → y ≡ put d to (bytes_at s from n)
+  copy_two k m n x y h e p q = copy_part x k y m p (omega arith) q ∙ ap (λ (i : ℕ). put d to (bytes_at s from i)) e
 
   pub copy_more : (x : List ℕ) (j n : ℕ) → x ≡ put d to (bytes_at s from j) → j < n → from + n ≤ length s
       → set x (to + j) (get_or s (from + j) 0) ≡ put d to (bytes_at s from (j + 1))
   copy_more x j n p l h = ap (λ (z : List ℕ). set z (to + j) (get_or s (from + j) 0)) p ∙ put_more d to s from j (omega arith)
-
-  pub copy_all : (x : List ℕ) (j n : ℕ) → x ≡ put d to (bytes_at s from j) → j ≤ n → n ≤ j → x ≡ put d to (bytes_at s from n)
-  copy_all x j n p l h =
-      let e : j ≡ n = omega arith in
-      p ∙ ap (λ (k : ℕ). put d to (bytes_at s from k)) e
-
-module _ (d : List ℕ) (at : ℕ) where
-  pub zeros_none : d ≡ put d at (zeros 0)
-  unfolding zeros
-  zeros_none = sym (put_nil d at)
-
-  pub zeros_more : (x : List ℕ) (j : ℕ) → x ≡ put d at (zeros j) → set x (at + j) 0 ≡ put d at (zeros (j + 1))
-  zeros_more x j p = ap (λ (l : List ℕ). set l (at + j) 0) p ∙ put_zeros d at j
-
-  pub zeros_all : (x : List ℕ) (j n : ℕ) → x ≡ put d at (zeros j) → j ≤ n → n ≤ j → x ≡ put d at (zeros n)
-  zeros_all x j n p l h =
-      let e : j ≡ n = omega arith in
-      p ∙ ap (λ (k : ℕ). put d at (zeros k)) e
 
 -- ---- the whole list written anew
 pub length_zeros : (n : ℕ) → length (zeros n) ≡ n

@@ -1,18 +1,16 @@
 -- The laws of `be` and `digits`. Nothing else opens them. Assumes nothing.
 use mathlib.Core.Path.{◌≡◌, refl, sym, ap, ap₂, ◌∙◌, subst}
 use mathlib.Core.Logic.{◌⊎◌, inl, inr}
-use Prim.Native.Nat.{ℕ, zero, suc, ◌+◌, ◌-◌, ◌*◌, ◌/◌, ◌%◌, ◌^◌, ◌≤◌, ◌<◌}
+use Prim.Native.Nat.{ℕ, zero, suc, ◌+◌, ◌*◌, ◌/◌, ◌%◌, ◌^◌, ◌≤◌, ◌<◌}
 use native.Mathlib.Nat.{add-zero, zero-add, add-suc, add_assoc, add-mul, mul_assoc, pow-zero, pow-suc, one-le-pow, mod-lt, mod-eq_of_lt, div-div-eq-div-mul, eq-or-lt_of_le, le_of_suc-le-suc}
 use native.Mathlib.Numerals.{add-one}
 use native.Mathlib.Omega.{arith}
 use mathlib.Core.List.{List, [], ◌∷◌, ◌++◌, append_assoc, append-nil}
-use mir.Syntax.{w8}
-use mir.Val.{Fits}
 use lib.Arith as A
 use lib.ListN.{length, get_or, set, length-append, get_or-append}
 use lib.Seq.{get_or_at}
 use Rattle.octets.specs.Bytes.{bytes_at, put, be, digits, zeros, Clear}
-use Rattle.octets.proofs.Bytes.{clear_part, part_none, part_one, part_append, get_or_bytes_at, get_or_zeros, get_or_put_other, get_or_put_same, put_one, put_append, copy_part}
+use Rattle.octets.proofs.Bytes.{clear_part, part_none, part_one, part_append, get_or_bytes_at, get_or_zeros, get_or_put_other, get_or_put_same, put_one, put_append}
 
 pow_pos : (n : ℕ) → 0 < 256 ^ n
 pow_pos n = one-le-pow n 256 (omega arith)
@@ -184,51 +182,7 @@ put_join n m s i v x y p q =
 pub get_seven : (s : List ℕ) (at h l x : ℕ) → h ≡ be s at 4 → l ≡ be s (at + 4) 2 → x ≡ get_or s (at + 6) 0 → (h * 65536 + l) * 256 + x ≡ be s at 7
 get_seven s at h l x p q e = read_more s at 6 (h * 65536 + l) x (be_join 4 2 s at h l p q) e
 
--- a number of 4 bytes with its halves turned, and the bound of the second
-halves : (s : List ℕ) (at : ℕ) → ((k : ℕ) → Fits w8 (get_or s k 0)) → (be s at 2 < 65536) × (be s (at + 2) 2 < 65536)
-halves s at b = (be_lt s at 2 (λ k h. (b (at + k)).fits), be_lt s (at + 2) 2 (λ k h. (b (at + 2 + k)).fits))
-
-pub turned : (s : List ℕ) (at w : ℕ) → ((k : ℕ) → Fits w8 (get_or s k 0)) → w ≡ be s at 4
-    → w % 65536 * 65536 + w / 65536 ≡ be s (at + 2) 2 * 2 ^ 16 + be s at 2
-turned s at w b e =
-    let h = halves s at b in
-    let q : w ≡ be s at 2 * 65536 + be s (at + 2) 2 = e ∙ be_add s at 2 2 in
-    let low : w % 65536 ≡ be s (at + 2) 2 = omega (arith, q, h.1) in
-    let high : w / 65536 ≡ be s at 2 = omega (arith, q, h.1) in
-    ap₂ (λ (x y : ℕ). x * 65536 + y) low high
-
-pub turned_lt : (s : List ℕ) (at : ℕ) → ((k : ℕ) → Fits w8 (get_or s k 0)) → be s at 2 < 2 ^ 16
-turned_lt s at b = (halves s at b).0
-
 -- a number of one byte
 pub put_digit : (s : List ℕ) (i v : ℕ) → v < 256 → set s i v ≡ put s i (digits 1 v)
 unfolding digits
 put_digit s i v h = ap (λ (x : ℕ). set s i x) (sym (mod-eq_of_lt h)) ∙ sym (put_one s i (v % 256))
-
--- m of n bytes copied as a number v
-pub copy_number : (d : List ℕ) (to : ℕ) (s : List ℕ) (from m n v : ℕ) (y : List ℕ) → ((k : ℕ) → Fits w8 (get_or s k 0)) → m ≤ n
-    → from + n ≤ length s → v ≡ be s from m → y ≡ put d to (digits m v) → y ≡ put d to (bytes_at s from m)
-copy_number d to s from m n v y b l h p q =
-    q
-    ∙ ap (λ (w : List ℕ). put d to w)
-    (ap (λ (z : ℕ). digits m z) p ∙ digits_be s from m (λ k e. (b (from + k)).fits) (omega arith))
-
--- the same m at a turn of a loop that has copied i, x being the list as it is then
-pub copy_number_more : (d : List ℕ) (to : ℕ) (s : List ℕ) (from i m n v : ℕ) (x y : List ℕ) → ((k : ℕ) → Fits w8 (get_or s k 0))
-    → i ≤ n → m ≤ n - i → from + n ≤ length s → x ≡ put d to (bytes_at s from i) → v ≡ be s (from + i) m
-    → y ≡ put x (to + i) (digits m v) → y ≡ put d to (bytes_at s from (i + m))
-copy_number_more d to s from i m n v x y b l r h e p q =
-    copy_part d to s from x i y m e (omega arith) (copy_number x (to + i) s (from + i) m (n - i) v y b r (omega arith) p q)
-
--- all n, where n is known to be m, or twice m
-pub copy_whole : (m : ℕ) (d : List ℕ) (to : ℕ) (s : List ℕ) (from n v : ℕ) (y : List ℕ) → ((k : ℕ) → Fits w8 (get_or s k 0)) → n ≡ m
-    → from + n ≤ length s → v ≡ be s from m → y ≡ put d to (digits m v) → y ≡ put d to (bytes_at s from n)
-copy_whole m d to s from n v y b e h p q =
-    copy_number d to s from m n v y b (omega arith) h p q ∙ ap (λ (k : ℕ). put d to (bytes_at s from k)) (sym e)
-
-pub copy_twice : (m : ℕ) (d : List ℕ) (to : ℕ) (s : List ℕ) (from n v w : ℕ) (x y : List ℕ) → ((k : ℕ) → Fits w8 (get_or s k 0)) → n ≡ m + m
-    → from + n ≤ length s → v ≡ be s from m → x ≡ put d to (digits m v) → w ≡ be s (from + m) m → y ≡ put x (to + m) (digits m w)
-    → y ≡ put d to (bytes_at s from n)
-copy_twice m d to s from n v w x y b e h p q f g =
-    copy_number_more d to s from m m n w x y b (omega arith) (omega arith) h (copy_number d to s from m n v x b (omega arith) h p q) f g
-    ∙ ap (λ (k : ℕ). put d to (bytes_at s from k)) (sym e)

@@ -2,57 +2,40 @@
 ghost use Rattle.std.specs.Prelude.{◌≡◌, ◌+◌, ◌/◌, ◌≤◌, ◌<◌, ◌^◌, length};
 ghost use Rattle.octets.specs.Bytes.{put, digits};
 ghost use Rattle.octets.specs.Bits.{ins, put_bits};
-ghost use Rattle.octets.specs.Private.{swap2, swap4, swap8};
 
 use super::reading::get32;
-use super::{swap16, swap32, swap64};
 
-// Each wider write is two of the next narrower one, so that one law proves them.
-fn put_pair(s: &mut [u8], at: usize, v: u16)
-    requires { at + 2 ≤ length s.old }
-    ensures { s.new ≡ put s.old at (digits 2 (swap2 v)) }
+// N bytes written: the compiler makes one store of them, for N up to 16.
+#[tactic(auto, using(crate::proofs::Bytes::part_put))]
+pub(crate) fn put_array<const N: usize>(s: &mut [u8], at: usize, bytes: [u8; N])
+    requires { at + N ≤ length s.old }
+    ensures { s.new ≡ put s.old at bytes.entry }
 {
-    s[at] = (v % 256) as u8;
-    s[at + 1] = (v / 256) as u8;
+    s[at..at + N].copy_from_slice(&bytes);
 }
 
-fn put_quad(s: &mut [u8], at: usize, v: u32)
-    requires { at + 4 ≤ length s.old }
-    ensures { s.new ≡ put s.old at (digits 4 (swap4 v)) }
-{
-    put_pair(s, at, (v % 0x1_0000) as u16);
-    put_pair(s, at + 2, (v / 0x1_0000) as u16);
-}
-
-fn put_octet(s: &mut [u8], at: usize, v: u64)
-    requires { at + 8 ≤ length s.old }
-    ensures { s.new ≡ put s.old at (digits 8 (swap8 v)) }
-{
-    put_quad(s, at, (v % 0x1_0000_0000) as u32);
-    put_quad(s, at + 4, (v / 0x1_0000_0000) as u32);
-}
-
+#[tactic(auto, using(crate::proofs::Conversions::written))]
 pub fn put16(s: &mut [u8], at: usize, v: u16)
     requires { at + 2 ≤ length s.old }
     ensures { s.new ≡ put s.old at (digits 2 v) }
 {
-    put_pair(s, at, swap16(v));
+    put_array(s, at, v.to_be_bytes());
 }
 
-// Half a word in one store, which a copy of 4 bytes is.
+#[tactic(auto, using(crate::proofs::Conversions::written))]
 pub fn put32(s: &mut [u8], at: usize, v: u32)
     requires { at + 4 ≤ length s.old }
     ensures { s.new ≡ put s.old at (digits 4 v) }
 {
-    put_quad(s, at, swap32(v));
+    put_array(s, at, v.to_be_bytes());
 }
 
-// A word in one store, of which longer copies are made.
+#[tactic(auto, using(crate::proofs::Conversions::written))]
 pub fn put64(s: &mut [u8], at: usize, v: u64)
     requires { at + 8 ≤ length s.old }
     ensures { s.new ≡ put s.old at (digits 8 v) }
 {
-    put_octet(s, at, swap64(v));
+    put_array(s, at, v.to_be_bytes());
 }
 
 // x with v in the n digits from digit k up; in 64 bits, where a number of 32 can be shifted out whole.
@@ -72,6 +55,6 @@ pub fn put_bits(s: &mut [u8], at: usize, width: usize, v: u64)
 {
     let p = at / 8;
     let behind = 32 - width - at % 8;
-    let x = get32(s, p) as u64;
+    let x = u64::from(get32(s, p));
     put32(s, p, with_digits(x, behind as u64, width as u64, v));
 }

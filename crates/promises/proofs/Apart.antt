@@ -30,7 +30,6 @@ use Rattle.rules.specs.Rules.{size_fits, scope_for}
 use Rattle.elements.specs.Later.{offer_of}
 use Rattle.elements.specs.Right.{bytes_of}
 use Rattle.rules.proofs.Rules.{size_listed}
-use Rattle.gsb.specs.declared.Walked.TheVariants.{Done}
 use Rattle.gsb.specs.Message.{message}
 use Rattle.gsb.specs.Walk.{count_of, id_at, size_at, offset_at, first_bad}
 use Rattle.store.specs.declared.Layout.{Layout}
@@ -65,6 +64,7 @@ use Rattle.promises.proofs.HandedOver.{Placed, slot_placed, word_used, handed, h
 use Rattle.promises.proofs.Kept.{decided, applied_header, base_values, well_formed_kept}
 use Rattle.promises.proofs.Runs.{input_walked, effect_walked}
 use Rattle.promises.proofs.States.{walked, get_room, set_room, slots_apart, guests_apart, pvr_kept}
+use Rattle.std.proofs.Common.{Ok}
 
 -- what a call leaves, with w written into the store from q on
 abbrev written : ℕ → List ℕ → Outcome → Outcome
@@ -95,7 +95,7 @@ decided_after s q w b tests begun rest seen o done e f g =
 
 -- ---- what is moved to and from other values
 -- an accepted buffer, and values at base that a write into q.. does not meet
-module _ (k : Context) (base : ℕ) (b : List ℕ) (d : first_bad k b ≡ Done) (q : ℕ) (w : List ℕ) (c : Clear base (bytes_of (scope_for k.usage)) q (length w)) where
+module _ (k : Context) (base : ℕ) (b : List ℕ) (d : first_bad k b ≡ Ok tt) (q : ℕ) (w : List ℕ) (c : Clear base (bytes_of (scope_for k.usage)) q (length w)) where
   -- a counted element's value lies among those at base
   element_apart : (i : ℕ) → i < count_of b → (x : Entry) (p : ℕ) → kind_of (id_at b (offset_at b i)) ≡ Listed x → x.source ≡ Stored p → Clear (base + p) x.size q (length w)
   element_apart i h x p e st = clear_sym (clear_part p x.size (element_within k b d i h x p e st) (clear_sym c))

@@ -19,13 +19,13 @@ use Rattle.elements.proofs.Table.{source_stored, position_apart}
 use Rattle.rules.specs.declared.Context.{Context}
 use Rattle.rules.specs.Rules.{scope_for, permits, size_fits}
 use Rattle.rules.proofs.Rules.{size_listed, permits_scope}
-use Rattle.gsb.specs.declared.Walked.TheVariants.{Done}
 use Rattle.gsb.specs.Walk.{count_of, id_at, size_at, offset_at, first_bad}
 use Rattle.gsb.proofs.Judged.{GoodElement, nop}
 use Rattle.gsb.proofs.First.{element_good_lem}
 use Rattle.transfer.specs.Transfer.{value_at, put_from, put_as, applied}
 use Rattle.transfer.proofs.Moving.{apply_start, apply_more}
 use Rattle.promises.specs.Joining.{ShareNoId}
+use Rattle.std.proofs.Common.{Ok}
 
 -- ---- two elements of different IDs, or one a NOP
 module _ (k : Context) (base : ℕ) (i j : ℕ) (v w : List ℕ)
@@ -77,7 +77,7 @@ module _ (k : Context) (base : ℕ) (i j : ℕ) (v w : List ℕ)
       go (Listed x) (Listed y) e f p q g h = stored x y e f p q (size_listed x (length v) g) (size_listed y (length w) h) x.source y.source refl refl
 
 -- ---- two buffers
-module _ (k : Context) (base : ℕ) (a b : List ℕ) (ga : first_bad k a ≡ Done) (gb : first_bad k b ≡ Done) (apart : ShareNoId a b) where
+module _ (k : Context) (base : ℕ) (a b : List ℕ) (ga : first_bad k a ≡ Ok tt) (gb : first_bad k b ≡ Ok tt) (apart : ShareNoId a b) where
   -- the store s with element i of a buffer c
   abbrev with : List ℕ → ℕ → List ℕ → List ℕ
   with c i s = put_as (kind_of (id_at c (offset_at c i))) base (value_at c (offset_at c i)) s

@@ -18,9 +18,7 @@ use Rattle.answer.specs.declared.Fault.TheVariants.{None, Length}
 use Rattle.elements.specs.Later.{offer_of}
 use Rattle.rules.specs.Rules.{scope_for}
 use Rattle.rules.proofs.Lists.{by}
-use Rattle.gsb.specs.declared.Walked.{Walked}
-use Rattle.gsb.specs.declared.Walked.TheVariants.{Done}
-use Rattle.gsb.specs.Walk.{count_of, bad_length, first_bad, is_stopped, fault_of}
+use Rattle.gsb.specs.Walk.{count_of, bad_length, first_bad, is_stopped, fault_of, Walked}
 use Rattle.gsb.specs.Private.{settled}
 use Rattle.gsb.specs.Join.{joined, Joining, join_into, Joinable, CanJoin}
 use Rattle.gsb.proofs.Walks.{length_bounds}
@@ -48,6 +46,7 @@ use Rattle.promises.proofs.Kept.{applied_header, applied_kept, base_values}
 use Rattle.promises.proofs.States.{skip, walked, target_passed, pvr_kept, every_guest}
 use Rattle.promises.proofs.ReadBack.{set_accepted, base_same}
 use Rattle.promises.proofs.Either.{applied_either}
+use Rattle.std.proofs.Common.{Ok}
 
 -- ---- the joining
 pub join_accepted_exactly : (a b r : List ℕ) → ((join_told a b r).r3 ≡ 0) ↔ CanJoin a b r
@@ -85,7 +84,7 @@ module _ (a b c : List ℕ) (ja : Joinable a) (jb : Joinable b) (jc : Joinable c
 record Takes (l : Layout) (s : List ℕ) (flags guest vcpu : ℕ) (b : List ℕ) : Type 0 where
   target : Passed (target_tests l s (supported_bits (has_bit0 flags)) flags (has_bit0 flags) guest vcpu)
   sized : bad_length b ≡ false
-  good : first_bad (context_of l s guest (set_use (has_bit0 flags))) b ≡ Done
+  good : first_bad (context_of l s guest (set_use (has_bit0 flags))) b ≡ Ok tt
 
 module _ (l : Layout) (s : List ℕ) (flags guest vcpu : ℕ) (b : List ℕ) where
   abbrev done : Outcome
@@ -127,10 +126,10 @@ alike_back : (l : Layout) (s t : List ℕ) (flags guest : ℕ) → Alike l s t f
 alike_back l s t flags guest k = record { heads = sym k.heads; formed = sym k.formed; list = ⊎_elim (λ w. inl w) (λ e. inr (sym e)) k.list }
 
 module _ (l : Layout) (s t : List ℕ) (flags guest vcpu : ℕ) (k : Alike l s t flags guest) where
-  good_moved : (b : List ℕ) → first_bad (context_of l s guest (set_use (has_bit0 flags))) b ≡ Done → first_bad (context_of l t guest (set_use (has_bit0 flags))) b ≡ Done
+  good_moved : (b : List ℕ) → first_bad (context_of l s guest (set_use (has_bit0 flags))) b ≡ Ok tt → first_bad (context_of l t guest (set_use (has_bit0 flags))) b ≡ Ok tt
   good_moved b d = ap (λ (h : List ℕ). first_bad (by (set_use (has_bit0 flags)) (capabilities_of h) (offer_of (pvr_of l t guest))) b) k.heads ∙ go k.list
     where
-      go : (has_bit0 flags ≡ true) ⊎ (pvr_of l t guest ≡ pvr_of l s guest) → first_bad (by (set_use (has_bit0 flags)) (capabilities_of (header l s)) (offer_of (pvr_of l t guest))) b ≡ Done
+      go : (has_bit0 flags ≡ true) ⊎ (pvr_of l t guest ≡ pvr_of l s guest) → first_bad (by (set_use (has_bit0 flags)) (capabilities_of (header l s)) (offer_of (pvr_of l t guest))) b ≡ Ok tt
       go (inl w) = guest_good (set_use (has_bit0 flags)) (capabilities_of (header l s)) (offer_of (pvr_of l s guest)) (offer_of (pvr_of l t guest)) (ap (λ (x : Bool). scope_for (set_use x)) w) b d
       go (inr e) = ap (λ (p : ℕ). first_bad (by (set_use (has_bit0 flags)) (capabilities_of (header l s)) (offer_of p)) b) e ∙ d
 

@@ -21,9 +21,7 @@ use Rattle.answer.specs.declared.Fault.{Fault}
 use Rattle.answer.specs.declared.Fault.TheVariants.{None, Element, Missing}
 use Rattle.answer.specs.Refusals.{first_of}
 use Rattle.answer.specs.Answer.{bad_number, three, told}
-use Rattle.gsb.specs.declared.Walked.{Walked}
-use Rattle.gsb.specs.declared.Walked.TheVariants.{Done, Stopped}
-use Rattle.gsb.specs.Walk.{count_of, offset_at, bad_length}
+use Rattle.gsb.specs.Walk.{count_of, offset_at, bad_length, Walked, stopped_at}
 use Rattle.gsb.specs.First.{FirstBadAt, AllGood}
 use Rattle.gsb.specs.Message.{message, Begins}
 use Rattle.gsb.specs.Join.{cut_of}
@@ -55,6 +53,7 @@ use Rattle.promises.proofs.Told.{none_told, told_by, element_told, index_first_i
 use Rattle.promises.proofs.Kept.{applied_header, applied_kept, base_values}
 use Rattle.promises.proofs.Runs.{length_ran}
 use Rattle.promises.proofs.Sums.{run_ran}
+use Rattle.std.proofs.Common.{Ok, Err}
 
 all_passed : (xs : List (Bool × Fault)) (a : Answer) → Passed xs → first_of refusal xs a ≡ a
 all_passed [] a p = refl
@@ -70,11 +69,11 @@ bad_some Id = omega arith
 bad_some Size = omega arith
 bad_some Value = omega arith
 
-found_stopped : (bad : Bad) (place : Place) (f : Fault) → found (Stopped bad place) f ≡ Element bad place
+found_stopped : (bad : Bad) (place : Place) (f : Fault) → found (stopped_at bad place) f ≡ Element bad place
 unfolding found
 found_stopped bad place f = refl
 
-found_done : (f : Fault) → found Done f ≡ f
+found_done : (f : Fault) → found (Ok tt) f ≡ f
 unfolding found
 found_done f = refl
 
@@ -97,8 +96,8 @@ module _ (l : Layout) (s : List ℕ) (guest vcpu exit : ℕ) (b : List ℕ) (p :
   judge_told_lem = ap (λ (a : Answer). told Name.JudgeOutput a.fault a.value) answered ∙ go (comparison ours b)
     where
       go : (w : Walked) → told Name.JudgeOutput (found w lack) 0 ≡ told_by (element_told Name.JudgeOutput) (told Name.JudgeOutput lack 0) w
-      go Done = ap (λ (f : Fault). told Name.JudgeOutput f 0) (found_done lack)
-      go (Stopped bad place) = ap (λ (f : Fault). told Name.JudgeOutput f 0) (found_stopped bad place lack)
+      go (Ok _) = ap (λ (f : Fault). told Name.JudgeOutput f 0) (found_done lack)
+      go (Err stop) = ap (λ (f : Fault). told Name.JudgeOutput f 0) (found_stopped stop.bad stop.place lack)
 
   nonzero : is_ours ours 0 ≡ false
   nonzero = distinct_nonzero ours (distinct_valued (base_of l s false guest vcpu) s (returned exit) (returned_good exit))
@@ -107,9 +106,9 @@ module _ (l : Layout) (s : List ℕ) (guest vcpu exit : ℕ) (b : List ℕ) (p :
   pub judged_exactly : ((judge_told l s guest vcpu exit b).r3 ≡ 0) ↔ HoldsOurs (ours_of l s guest vcpu exit) b
   judged_exactly = (there, back)
     where
-      parts : (w : Walked) → comparison ours b ≡ w → found w lack ≡ None → (comparison ours b ≡ Done) × (lack ≡ None)
-      parts Done e q = (e, sym (found_done lack) ∙ q)
-      parts (Stopped bad place) e q = absurd (no_element bad place (sym (found_stopped bad place lack) ∙ q))
+      parts : (w : Walked) → comparison ours b ≡ w → found w lack ≡ None → (comparison ours b ≡ Ok tt) × (lack ≡ None)
+      parts (Ok _) e q = (e, sym (found_done lack) ∙ q)
+      parts (Err stop) e q = absurd (no_element stop.bad stop.place (sym (found_stopped stop.bad stop.place lack) ∙ q))
 
       there : (judge_told l s guest vcpu exit b).r3 ≡ 0 → HoldsOurs ours b
       there e =
@@ -153,8 +152,8 @@ module _ (l : Layout) (s : List ℕ) (guest vcpu exit : ℕ) (b : List ℕ) (p :
               (lacking_fault ours (elements_of b))
 
           go : (w : Walked) → comparison ours b ≡ w → told_by (element_told Name.JudgeOutput) (told Name.JudgeOutput lack 0) w ≡ three 20 id 0 → AllGood (compared ours b) b × SmallestMissing ours b id
-          go Done q k = ((accepted_exactly (compared ours b) b (compared_leads ours b)).0 q, lacks k)
-          go (Stopped bad place) q k = absurd (let z : bad_number bad ≡ 20 = ap (λ (r : Registers). r.r3) k in omega (arith, z, bad_small bad))
+          go (Ok _) q k = ((accepted_exactly (compared ours b) b (compared_leads ours b)).0 q, lacks k)
+          go (Err stop) q k = absurd (let z : bad_number stop.bad ≡ 20 = ap (λ (r : Registers). r.r3) k in omega (arith, z, bad_small stop.bad))
 
       back : AllGood (compared ours b) b × SmallestMissing ours b id → judge_told l s guest vcpu exit b ≡ three 20 id 0
       back f =
@@ -244,7 +243,7 @@ module _ (l : Layout) (so : Sound l) (s : List ℕ) (flags guest vcpu : ℕ) (in
   own_elements : elements_of own ≡ valued base left (returned exit)
   own_elements = message_elements (valued base left (returned exit)) own (wire_valued base left room (returned exit) (returned_few exit) (returned_good exit)) begins
 
-  own_walkable : cut_of own ≡ Done
+  own_walkable : cut_of own ≡ Ok tt
   own_walkable =
       let w = wire_valued base left room (returned exit) (returned_few exit) (returned_good exit) in
       (inside_exactly own).1 (λ j h. message_inside (valued base left (returned exit)) own w begins j (omega (arith, message_count (valued base left (returned exit)) own w begins)))
@@ -262,7 +261,7 @@ module _ (l : Layout) (so : Sound l) (s : List ℕ) (flags guest vcpu : ℕ) (in
         ),
       )
 
-  reordered : (b : List ℕ) → bad_length b ≡ false → cut_of b ≡ Done → Reordered (valued base left (returned exit)) (elements_of b) → (judge_told l left guest vcpu exit b).r3 ≡ 0
+  reordered : (b : List ℕ) → bad_length b ≡ false → cut_of b ≡ Ok tt → Reordered (valued base left (returned exit)) (elements_of b) → (judge_told l left guest vcpu exit b).r3 ≡ 0
   reordered b g w r =
       (judged_exactly l left guest vcpu exit b (left_passed b g)).1
       (subst (λ (n : ℕ). HoldsOurs (valued n left (returned exit)) b) (sym left_base)
@@ -276,7 +275,7 @@ module _ (l : Layout) (so : Sound l) (s : List ℕ) (flags guest vcpu : ℕ) (in
       (subst (Reordered (valued base left (returned exit))) (sym own_elements) (reordered_self (valued base left (returned exit))))
 
   -- "and any reordering of its elements", NOPs being added anywhere
-  pub own_reordered : (b : List ℕ) → bad_length b ≡ false → cut_of b ≡ Done → Reordered (elements_of (own_output l s flags guest vcpu input output effect exit)) (elements_of b)
+  pub own_reordered : (b : List ℕ) → bad_length b ≡ false → cut_of b ≡ Ok tt → Reordered (elements_of (own_output l s flags guest vcpu input output effect exit)) (elements_of b)
       → (judge_told l (left_by_run l s flags guest vcpu input output effect exit) guest vcpu exit b).r3 ≡ 0
   own_reordered b g w r =
       ap (λ (t : List ℕ). (judge_told l t guest vcpu exit b).r3) store_is

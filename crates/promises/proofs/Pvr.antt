@@ -29,7 +29,6 @@ use Rattle.rules.specs.declared.Usage.TheVariants.{GuestSet}
 use Rattle.elements.specs.Later.{later, is_later, offer_of, offers}
 use Rattle.rules.specs.Rules.{scope_for, allows, permits, size_fits, good_pvr, rule_of, is_setting, good_value}
 use Rattle.rules.proofs.Rules.{size_listed, permits_scope}
-use Rattle.gsb.specs.declared.Walked.TheVariants.{Done}
 use Rattle.gsb.proofs.First.{element_good_lem}
 use Rattle.gsb.specs.Walk.{count_of, id_at, size_at, offset_at, judged, walk_on, walk, first_bad}
 use Rattle.store.specs.declared.Layout.{Layout}
@@ -63,6 +62,7 @@ use Rattle.promises.proofs.Kept.{decided, applied_header, base_values}
 use Rattle.promises.proofs.Lowest.{all_dead}
 use Rattle.promises.proofs.States.{walked, wide_base, guests_apart, pvr_kept, every_guest, other_guest}
 use Rattle.promises.proofs.Runs.{run_beside}
+use Rattle.std.proofs.Common.{Ok}
 
 -- a number at the start of a part
 be_front : (s : List ℕ) (i n m : ℕ) → m ≤ n → be (bytes_at s i n) 0 m ≡ be s i m
@@ -155,7 +155,7 @@ module _ (l : Layout) (so : Sound l) where
   keeps_none s (suc n) h = keeps_more s (no_guests n s) _ (keeps_none s n (omega arith)) (keeps_live (no_guests n s) (n + 1) 0 (omega arith) (omega arith))
 
   -- ---- a set of the guest's own values: what is left as the PVR was there before, or was judged good
-  module _ (k : Context) (set : k.usage ≡ GuestSet) (base : ℕ) (b : List ℕ) (d : first_bad k b ≡ Done) where
+  module _ (k : Context) (set : k.usage ≡ GuestSet) (base : ℕ) (b : List ℕ) (d : first_bad k b ≡ Ok tt) where
     abbrev pvrAt : List ℕ → ℕ
     pvrAt s = be s (base + position GuestWide 0x0003) 4
 

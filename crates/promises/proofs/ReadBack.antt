@@ -23,9 +23,7 @@ use Rattle.rules.specs.Rules.{permits, scope_for, is_setting}
 use Rattle.elements.specs.Right.{bytes_of}
 use Rattle.elements.proofs.Table.{nop_zero, listed_stored, position_end}
 use Rattle.rules.proofs.Rules.{permits_listed, permits_scope, setting_stored, size_fits_lem}
-use Rattle.gsb.specs.declared.Walked.{Walked}
-use Rattle.gsb.specs.declared.Walked.TheVariants.{Done, Stopped}
-use Rattle.gsb.specs.Walk.{count_of, id_at, size_at, offset_at, first_bad, is_stopped, fault_of}
+use Rattle.gsb.specs.Walk.{count_of, id_at, size_at, offset_at, first_bad, is_stopped, fault_of, Walked}
 use Rattle.gsb.proofs.Judged.{GoodElement, good_element}
 use Rattle.gsb.proofs.First.{all_good}
 use Rattle.gsb.proofs.Walks.{offset_start}
@@ -45,6 +43,7 @@ use Rattle.promises.proofs.Told.{accepted_none}
 use Rattle.promises.proofs.Kept.{base_values}
 use Rattle.promises.proofs.Lowest.{Real, accepted, no_store, no_flag, no_guest, no_vcpu}
 use Rattle.promises.proofs.States.{walked, all_ready, set_room}
+use Rattle.std.proofs.Common.{Ok, Err}
 
 pub no_taken : Taken ≡ None → ⊥
 no_taken e = let z : ◌≡◌ {A = ℕ} 0 1 = cc in omega arith
@@ -53,8 +52,8 @@ pub no_length : Length ≡ None → ⊥
 no_length e = let z : ◌≡◌ {A = ℕ} 0 1 = cc in omega arith
 
 pub stopped_real : (w : Walked) → is_stopped w ≡ true → fault_of w ≡ None → ⊥
-stopped_real Done e q = let z : ◌≡◌ {A = ℕ} 0 1 = cc in omega arith
-stopped_real (Stopped bad place) e q = let z : ◌≡◌ {A = ℕ} 0 1 = cc in omega arith
+stopped_real (Ok _) e q = let z : ◌≡◌ {A = ℕ} 0 1 = cc in omega arith
+stopped_real (Err stop) e q = let z : ◌≡◌ {A = ℕ} 0 1 = cc in omega arith
 
 module _ (l : Layout) (s : List ℕ) (flags guest vcpu : ℕ) (b : List ℕ) where
   all_real : (usage : Usage) → Real (target_tests l s (supported_bits (has_bit0 flags)) flags (has_bit0 flags) guest vcpu ++ buffer_tests (context_of l s guest usage) b)
@@ -71,7 +70,7 @@ module _ (l : Layout) (s : List ℕ) (flags guest vcpu : ℕ) (b : List ℕ) whe
   get_accepted e = accepted s b (target_tests l s (supported_bits (has_bit0 flags)) flags (has_bit0 flags) guest vcpu ++ buffer_tests (context_of l s guest (get_use (has_bit0 flags))) b) (fill_with s (base_of l s (has_bit0 flags) guest vcpu) b) (all_real (get_use (has_bit0 flags))) e
 
 -- the first element of an accepted buffer that has one
-first_good : (k : Context) (b : List ℕ) → first_bad k b ≡ Done → count_of b ≡ 1 → GoodElement k b 4
+first_good : (k : Context) (b : List ℕ) → first_bad k b ≡ Ok tt → count_of b ≡ 1 → GoodElement k b 4
 first_good k b d o =
     subst (GoodElement k b) (sym (offset_start b)) (good_element k b (offset_at b 0) (offset_at b (0 + 1)) ((all_good k b).0 d 0 (omega arith))).0
 

@@ -14,9 +14,9 @@ use Rattle.answer.specs.declared.Registers.{Registers}
 use Rattle.store.specs.declared.Layout.{Layout}
 use Rattle.store.specs.Store.{fresh}
 use Rattle.l0.specs.Numbered.{CallRecord, called}
-use Rattle.records.specs.declared.Read.{Read}
-use Rattle.records.specs.declared.Read.TheVariants.{Record, Cut, Bad}
-use Rattle.records.specs.Record.{is_kind, head_at, record_at, record_length, read_head}
+use Rattle.std.specs.Prelude.{Ok, Err}
+use Rattle.records.specs.declared.Unread.TheVariants.{Cut, Bad}
+use Rattle.records.specs.Record.{Read, is_kind, head_at, record_at, record_length, read_head}
 use Rattle.records.specs.Write.{head_of, packed, fits_record}
 use Rattle.records.specs.Replay.{turn, record_line, bad_line, Played, behind, played, played_all, is_record, is_bad, stops_at, printed}
 use Rattle.records.proofs.WriteLaws.{kind_held}
@@ -85,7 +85,7 @@ module _ (l : Layout) (z : List ℕ) (none : is_record (read_head z 0) ≡ false
       let rest = packed_all rs ++ z in
       let mine : b ≡ p ++ (packed r ++ (packed_all rs ++ z)) = e ∙ ap (λ (x : List ℕ). p ++ x) (append_assoc (packed r) (packed_all rs) z) in
       let trip = record_round_trip r fits w p rest in
-      let head : read_head b at ≡ Record (head_of r) = ap₂ (λ (x : List ℕ) (i : ℕ). read_head x i) mine f ∙ trip.head in
+      let head : read_head b at ≡ Ok (head_of r) = ap₂ (λ (x : List ℕ) (i : ℕ). read_head x i) mine f ∙ trip.head in
       let whole : record_at b at ≡ r = ap₂ (λ (x : List ℕ) (i : ℕ). record_at x i) mine f ∙ trip.whole in
       let next = at + record_length (head_of r) in
       let others : b ≡ (p ++ packed r) ++ (packed_all rs ++ z) = mine ∙ sym (append_assoc p (packed r) rest) in
@@ -103,7 +103,7 @@ module _ (l : Layout) (z : List ℕ) (none : is_record (read_head z 0) ≡ false
       }
 
 -- ---- the last line
-cut_none : read_head [] 0 ≡ Cut
+cut_none : read_head [] 0 ≡ Err Cut
 unfolding read_head
 cut_none = refl
 
@@ -115,7 +115,7 @@ last_is : (p z : List ℕ) → cond (stops_at true (p ++ z) (length p)) (bad_lin
 unfolding stops_at
 last_is p [] =
     let here : length p ≡ length p + 0 = omega arith in
-    let cut : read_head (p ++ []) (length p) ≡ Cut = ap (read_head (p ++ [])) here ∙ read_behind p [] 0 ∙ cut_none in
+    let cut : read_head (p ++ []) (length p) ≡ Err Cut = ap (read_head (p ++ [])) here ∙ read_behind p [] 0 ∙ cut_none in
     let ended : length (p ++ []) ≤ length p = omega (arith, length-append p []) in
     ap₂ (λ (r : Read) (t : Bool). cond (is_bad r || t) (bad_line (length p)) []) cut (le-ltb (length p) (length (p ++ [])) ended)
 last_is p (x ∷ z) =
@@ -151,15 +151,15 @@ within (suc f) b h small = go (read_head b 0) refl (within f (drop (record_lengt
     shorter = omega (arith, length-drop (record_length (head_at b 0)) b)
 
     go : (r : Read) → read_head b 0 ≡ r → InRecords others → InRecords b
-    go (Record x) e o = record {
+    go (Ok x) e o = record {
       records = record_at b 0 ∷ o.records;
       rest = o.rest;
       recorded = one_more (read_fits b x e) (read_words b x e) o.recorded;
       unread = o.unread;
       bytes = sym (repacked b x e small) ∙ ap (λ (z : List ℕ). packed (record_at b 0) ++ z) o.bytes ∙ sym (append_assoc (packed (record_at b 0)) (packed_all o.records) o.rest);
     }
-    go Cut e o = record { records = []; rest = b; recorded = nothing; unread = ap is_record e; bytes = refl }
-    go Bad e o = record { records = []; rest = b; recorded = nothing; unread = ap is_record e; bytes = refl }
+    go (Err Cut) e o = record { records = []; rest = b; recorded = nothing; unread = ap is_record e; bytes = refl }
+    go (Err Bad) e o = record { records = []; rest = b; recorded = nothing; unread = ap is_record e; bytes = refl }
 
 pub every_input : (b : List ℕ) → ((k : ℕ) → get_or b k 0 < 256) → InRecords b
 every_input b small = within (length b) b (omega arith) small

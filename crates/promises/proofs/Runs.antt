@@ -18,10 +18,7 @@ use Rattle.answer.specs.declared.Registers.{Registers}
 use Rattle.answer.specs.Answer.{bad_number, three}
 use Rattle.answer.specs.Refusals.{first_of}
 use Rattle.rules.specs.declared.Usage.TheVariants.{RunInput, Effect as InEffect}
-use Rattle.gsb.specs.declared.Walked.{Walked}
-use Rattle.gsb.specs.declared.Walked.TheVariants.{Done, Stopped}
-use Rattle.gsb.specs.declared.Verdict.{Verdict}
-use Rattle.gsb.specs.Walk.{count_of, bad_length, offset_at, judged, first_bad, is_stopped, fault_of}
+use Rattle.gsb.specs.Walk.{count_of, bad_length, offset_at, judged, first_bad, is_stopped, fault_of, Verdict, Walked}
 use Rattle.gsb.specs.First.{FirstBadAt}
 use Rattle.gsb.proofs.First.{judged_leads, first_walk, all_good}
 use Rattle.store.specs.declared.Layout.{Layout}
@@ -43,6 +40,7 @@ use Rattle.promises.specs.Promised.{before_input, input_given, InputGood, Effect
 use Rattle.promises.proofs.Kept.{decided}
 use Rattle.promises.proofs.States.{skip}
 use Rattle.promises.proofs.Told.{number_some, number_below, tells, told_by, element_told, offset_first_in, first_told, good_told, element_told_lem}
+use Rattle.std.proofs.Common.{Ok, Err}
 
 -- the first element lies behind the count
 offset_from : (b : List ℕ) (i : ℕ) → 4 ≤ offset_at b i
@@ -108,11 +106,11 @@ module _ (l : Layout) (s : List ℕ) (flags guest vcpu : ℕ) (input output effe
         go : (w : Walked) (k long : Bool) (v : Walked)
             → tells Name.RunVcpu (cond (is_stopped w) (refuse s output (fault_of w)) (cond (not k) (refuse s output Exit) (cond long (refuse s output (Effect (record { index = 0; offset = 0 }))) (cond (is_stopped v) (refuse s output (effect_fault v)) done))))
             ≡ told_by (element_told Name.RunVcpu) (later k long v) w
-        go (Stopped bad place) k long v = refl
-        go Done false long v = refl
-        go Done true true v = refl
-        go Done true false (Stopped bad place) = refl
-        go Done true false Done = refl
+        go (Err stop) k long v = refl
+        go (Ok _) false long v = refl
+        go (Ok _) true true v = refl
+        go (Ok _) true false (Err stop) = refl
+        go (Ok _) true false (Ok _) = refl
 
     pub run_refused_exactly : (bad : Bad) (at i : ℕ) → (registers l s (RunVcpu flags guest vcpu input output effect exit) ≡ three (bad_number bad) at i)
         ↔ (FirstBadAt (judged (context_of l s guest RunInput) (input_given l s guest vcpu input)) (input_given l s guest vcpu input) i bad × (offset_at (input_given l s guest vcpu input) i ≡ at))
@@ -124,8 +122,8 @@ module _ (l : Layout) (s : List ℕ) (flags guest vcpu : ℕ) (input output effe
         other : (b : Bad) (k long : Bool) (v : Walked) → (later k long v).r3 ≢ bad_number b
         other b false long v e = number_below b (omega arith)
         other b true true v e = number_below b (omega arith)
-        other b true false (Stopped bad place) e = number_below b (omega arith)
-        other b true false Done e = number_some b e
+        other b true false (Err stop) e = number_below b (omega arith)
+        other b true false (Ok _) e = number_some b e
 
     pub run_accepted_exactly : ((registers l s (RunVcpu flags guest vcpu input output effect exit)).r3 ≡ 0)
         ↔ (InputGood l s guest vcpu input × (known exit ≡ true) × (bad_length effect ≡ false) × EffectGood l s guest effect)
@@ -191,10 +189,10 @@ module _ (l : Layout) (s : List ℕ) (flags guest vcpu : ℕ) (input output effe
   abbrev tests : List (Bool × Fault)
   tests = run_tests l s flags guest vcpu input (length output) effect exit
 
-  pub input_walked : Passed tests → first_bad (context_of l s guest RunInput) given ≡ Done
+  pub input_walked : Passed tests → first_bad (context_of l s guest RunInput) given ≡ Ok tt
   input_walked p = stopped_not (first_bad (context_of l s guest RunInput) given) p.1.1.1.1.1.1.1.1.1.0
 
-  pub effect_walked : Passed tests → first_bad (context_of l s guest InEffect) effect ≡ Done
+  pub effect_walked : Passed tests → first_bad (context_of l s guest InEffect) effect ≡ Ok tt
   effect_walked p = stopped_not (first_bad (context_of l s guest InEffect) effect) p.1.1.1.1.1.1.1.1.1.1.1.1.0
 
   record ByteKept (j : ℕ) (o : Outcome) : Type 0 where

@@ -25,9 +25,7 @@ use Rattle.rules.specs.declared.Usage.{Usage}
 use Rattle.rules.specs.declared.Usage.TheVariants.{GuestGet, GuestSet, ThreadGet, ThreadSet}
 use Rattle.elements.specs.Right.{bytes_of}
 use Rattle.rules.specs.Rules.{scope_for}
-use Rattle.gsb.specs.declared.Walked.{Walked}
-use Rattle.gsb.specs.declared.Walked.TheVariants.{Done, Stopped}
-use Rattle.gsb.specs.Walk.{count_of, offset_at, bad_length, judged, first_bad, is_stopped, fault_of}
+use Rattle.gsb.specs.Walk.{count_of, offset_at, bad_length, judged, first_bad, is_stopped, fault_of, Walked}
 use Rattle.gsb.specs.First.{FirstBadAt, AllGood}
 use Rattle.gsb.proofs.First.{judged_leads, first_walk}
 use Rattle.gsb.proofs.Walks.{long_enough}
@@ -49,15 +47,16 @@ use Rattle.l0.specs.Calls.{GetState, SetState, outcome}
 use Rattle.promises.specs.History.{registers}
 use Rattle.promises.proofs.Kept.{decided}
 use Rattle.promises.proofs.Told.{number_some, tells, told_by, element_told, index_first_in, element_told_lem, zero_told}
+use Rattle.std.proofs.Common.{Ok, Err}
 
 -- tests that failed may be left out
 pub skip : {B : Type 0} (turn : Fault → B) (xs ys : List (Bool × Fault)) (o : B) → Passed xs → first_of turn (xs ++ ys) o ≡ first_of turn ys o
 skip turn [] ys o p = refl
 skip turn (x ∷ xs) ys o p = ap (λ (t : Bool). cond t (turn x.1) (first_of turn (xs ++ ys) o)) p.0 ∙ skip turn xs ys o p.1
 
-not_stopped : (w : Walked) → is_stopped w ≡ false → w ≡ Done
-not_stopped Done e = refl
-not_stopped (Stopped bad place) e = let z : ◌≡◌ {A = ℕ} 0 1 = cc in absurd (omega arith)
+not_stopped : (w : Walked) → is_stopped w ≡ false → w ≡ Ok tt
+not_stopped (Ok _) e = refl
+not_stopped (Err stop) e = let z : ◌≡◌ {A = ℕ} 0 1 = cc in absurd (omega arith)
 
 -- 02, L1: "demand 2's last two sentences leave both hand-overs out": they are about calls that do not hand over
 module _ (l : Layout) (s : List ℕ) (flags guest vcpu : ℕ) (b : List ℕ) where
@@ -73,8 +72,8 @@ module _ (l : Layout) (s : List ℕ) (flags guest vcpu : ℕ) (b : List ℕ) whe
         ∙ ap (λ (t : Bool). tells c (cond t (refuse s lent Length) (first_of (refuse s lent) (bad_element (context_of l s guest usage) b ∷ []) o))) g ∙ go (first_bad (context_of l s guest usage) b)
       where
         go : (w : Walked) → tells c (cond (is_stopped w) (refuse s lent (fault_of w)) o) ≡ told_by (element_told c) (three 0 0 0) w
-        go Done = ap (λ (y : Answer). told c y.fault y.value) a
-        go (Stopped bad place) = refl
+        go (Ok _) = ap (λ (y : Answer). told c y.fault y.value) a
+        go (Err stop) = refl
 
     set_told : registers l s (SetState flags guest vcpu b) ≡ told_by (element_told Name.SetState) (three 0 0 0) (first_bad (context_of l s guest (set_use (has_bit0 flags))) b)
     unfolding registers outcome set_elements
@@ -108,7 +107,7 @@ module _ (l : Layout) (s : List ℕ) (flags guest vcpu : ℕ) (b : List ℕ) whe
 
   -- ---- only what is named changes
   -- a buffer that passed its tests was walked to its end
-  pub walked : (usage : Usage) → Passed (target_tests l s (supported_bits (has_bit0 flags)) flags (has_bit0 flags) guest vcpu ++ buffer_tests (context_of l s guest usage) b) → first_bad (context_of l s guest usage) b ≡ Done
+  pub walked : (usage : Usage) → Passed (target_tests l s (supported_bits (has_bit0 flags)) flags (has_bit0 flags) guest vcpu ++ buffer_tests (context_of l s guest usage) b) → first_bad (context_of l s guest usage) b ≡ Ok tt
   walked usage p = not_stopped (first_bad (context_of l s guest usage) b) p.1.1.1.1.1.1.0
 
   abbrev setTests : List (Bool × Fault)

@@ -20,9 +20,7 @@ use Rattle.answer.specs.declared.Place.{Place}
 use Rattle.rules.specs.declared.Usage.TheVariants.{RunInput, Effect as InEffect}
 use Rattle.rules.specs.declared.Context.{Context}
 use Rattle.rules.specs.Rules.{good_input}
-use Rattle.gsb.specs.declared.Walked.{Walked}
-use Rattle.gsb.specs.declared.Walked.TheVariants.{Done, Stopped}
-use Rattle.gsb.specs.Walk.{count_of, id_at, offset_at, first_bad, is_stopped}
+use Rattle.gsb.specs.Walk.{count_of, id_at, offset_at, first_bad, is_stopped, Walked}
 use Rattle.gsb.proofs.First.{element_good_lem}
 use Rattle.store.specs.declared.Layout.{Layout}
 use Rattle.admission.specs.Refusals.{refusal, Passed, has_bit0, hands_over}
@@ -41,6 +39,7 @@ use Rattle.promises.proofs.Told.{zero_none}
 use Rattle.promises.proofs.Lowest.{Real, accepted, no_store, no_flag, no_guest, no_vcpu}
 use Rattle.promises.proofs.ReadBack.{no_taken, stopped_real}
 use Rattle.promises.proofs.Runs.{input_walked}
+use Rattle.std.proofs.Common.{Ok, Err}
 
 -- ---- the records, one by one
 pub length_noted : (p : ℕ → Bool) (c : Change) (i : ℕ) (ts : List Summary) → length (noted p c i ts) ≡ length ts
@@ -129,7 +128,7 @@ adds_set flags b r3 x = go (has_bit0 flags) (eqb r3 0) (hands_over flags)
     go false false hands = adds_refusal r3 x
 
 -- ---- the input of an accepted run: its counted elements are those of all that was lent
-module _ (k : Context) (input : List ℕ) (n : ℕ) (some_count : 4 ≤ n) (lent : n ≤ length input) (good : first_bad k (bytes_at input 0 n) ≡ Done) where
+module _ (k : Context) (input : List ℕ) (n : ℕ) (some_count : 4 ≤ n) (lent : n ≤ length input) (good : first_bad k (bytes_at input 0 n) ≡ Ok tt) where
   abbrev b : List ℕ
   b = bytes_at input 0 n
 
@@ -175,8 +174,8 @@ no_effect : (p : Place) → Effect p ≡ None → ⊥
 no_effect p e = let z : ◌≡◌ {A = ℕ} 0 1 = cc in omega arith
 
 effect_real : (w : Walked) → is_stopped w ≡ true → effect_fault w ≡ None → ⊥
-effect_real Done e q = let z : ◌≡◌ {A = ℕ} 0 1 = cc in omega arith
-effect_real (Stopped bad place) e q = no_effect place q
+effect_real (Ok _) e q = let z : ◌≡◌ {A = ℕ} 0 1 = cc in omega arith
+effect_real (Err stop) e q = no_effect stop.place q
 
 module _ (l : Layout) (s : List ℕ) (flags guest vcpu : ℕ) (input output effect : List ℕ) (exit : ℕ) where
   run_real : Real (run_tests l s flags guest vcpu input (length output) effect exit)

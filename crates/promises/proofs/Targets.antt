@@ -11,7 +11,6 @@ use Rattle.answer.specs.declared.Fault.TheVariants.{Vcpu, Taken}
 use Rattle.rules.specs.declared.Usage.{Usage}
 use Rattle.elements.specs.Right.{bytes_of}
 use Rattle.rules.specs.Rules.{scope_for}
-use Rattle.gsb.specs.declared.Walked.TheVariants.{Done}
 use Rattle.gsb.specs.Walk.{count_of, first_bad}
 use Rattle.store.specs.declared.Layout.{Layout}
 use Rattle.store.specs.Layout.{Sound, guest_at, slot_at}
@@ -23,6 +22,7 @@ use Rattle.admission.specs.Target.{is_away, is_absent, base_of}
 use Rattle.state.specs.State.{context_of}
 use Rattle.promises.specs.Mirror.{place_of, room_of, Inside}
 use Rattle.promises.proofs.Both.Values.{Beside, applied_beside}
+use Rattle.std.proofs.Common.{Ok}
 
 -- of tests in a row none of which holds, the first ones
 pub passed_first : (xs ys : List (Bool × Fault)) → Passed (xs ++ ys) → Passed xs
@@ -61,7 +61,7 @@ module _ (l : Layout) (s : List ℕ) (wide : Bool) (guest vcpu : ℕ) where
         go false e = leb-false _ _ e
 
     -- an accepted buffer stored there, in a store t of the same length
-    pub target_beside : Sound l → (t : List ℕ) → length t ≡ l.size → (usage : Usage) (b : List ℕ) → first_bad (context_of l s guest usage) b ≡ Done → bytes_of (scope_for usage) ≡ room_of wide
+    pub target_beside : Sound l → (t : List ℕ) → length t ≡ l.size → (usage : Usage) (b : List ℕ) → first_bad (context_of l s guest usage) b ≡ Ok tt → bytes_of (scope_for usage) ≡ room_of wide
         → Beside l wide (index_of l s wide guest vcpu) t (applied (base_of l s wide guest vcpu) b (count_of b) t)
     target_beside so t long usage b d r =
         subst (λ (x : ℕ). Beside l wide (index_of l s wide guest vcpu) t (applied x b (count_of b) t)) (sym base_index)

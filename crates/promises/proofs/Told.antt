@@ -17,10 +17,7 @@ use Rattle.answer.specs.declared.Fault.TheVariants.{None, Store, Flag, Guest, To
 use Rattle.answer.specs.declared.Registers.{Registers}
 use Rattle.answer.specs.Answer.{bad_number, three, told}
 use Rattle.answer.specs.declared.Answer.{Answer}
-use Rattle.gsb.specs.declared.Verdict.{Verdict}
-use Rattle.gsb.specs.declared.Walked.{Walked}
-use Rattle.gsb.specs.declared.Walked.TheVariants.{Done, Stopped}
-use Rattle.gsb.specs.Walk.{count_of, offset_at, walk}
+use Rattle.gsb.specs.Walk.{count_of, offset_at, walk, Verdict, Walked}
 use Rattle.gsb.specs.First.{Leads, FirstBadAt, AllGood}
 use Rattle.gsb.proofs.First.{refused_exactly, accepted_exactly}
 use Rattle.store.specs.declared.Layout.{Layout}
@@ -28,6 +25,7 @@ use Rattle.admission.specs.Refusals.{Outcome}
 use Rattle.l0.specs.Calls.{Call, outcome}
 use Rattle.promises.specs.History.{name_of, registers, is_accepted}
 use Rattle.promises.specs.Promised.{NotAccepted}
+use Rattle.std.proofs.Common.{Ok, Err}
 
 -- ---- 6, 7 and 8, read backwards
 numbered : ℕ → Bad
@@ -109,8 +107,8 @@ place_of b i = record { index = i; offset = offset_at b i }
 
 -- `show` of the bad element that it stopped at; x where it found none
 abbrev pub told_by : (Bad → Place → Registers) → Registers → Walked → Registers
-told_by show x Done = x
-told_by show x (Stopped bad place) = show bad place
+told_by show x (Ok _) = x
+told_by show x (Err stop) = show stop.bad stop.place
 
 -- the place that R4 and R5 show: as get and set state and the lookup tell it, and as run does
 abbrev pub index_first_in : Registers → Place
@@ -130,10 +128,10 @@ module _ (judge : ℕ → Verdict) (b : List ℕ) (leads : Leads judge b) (w : W
     first_told r n = (go w (sym is), back)
       where
         go : (v : Walked) → walk judge (count_of b) 0 4 ≡ v → told_by show x v ≡ r → (i : ℕ) × (bad : Bad) × FirstBadAt judge b i bad × (show bad (place_of b i) ≡ r)
-        go Done e q = absurd (n q)
-        go (Stopped bad place) e q =
-            let f = (refused_exactly judge b leads bad place).0 e in
-            (place.index, bad, f.0, ap (λ (at : ℕ). show bad (record { index = place.index; offset = at })) (sym f.1) ∙ q)
+        go (Ok _) e q = absurd (n q)
+        go (Err stop) e q =
+            let f = (refused_exactly judge b leads stop.bad stop.place).0 e in
+            (stop.place.index, stop.bad, f.0, ap (λ (at : ℕ). show stop.bad (record { index = stop.place.index; offset = at })) (sym f.1) ∙ q)
 
         back : ((i : ℕ) × (bad : Bad) × FirstBadAt judge b i bad × (show bad (place_of b i) ≡ r)) → told_by show x w ≡ r
         back f = ap (told_by show x) (is ∙ (refused_exactly judge b leads f.1 (place_of b f.0)).1 (f.2, refl)) ∙ f.3
@@ -143,8 +141,8 @@ module _ (judge : ℕ → Verdict) (b : List ℕ) (leads : Leads judge b) (w : W
     good_told n = (go w (sym is), back)
       where
         go : (v : Walked) → walk judge (count_of b) 0 4 ≡ v → (told_by show x v).r3 ≡ 0 → AllGood judge b × (x.r3 ≡ 0)
-        go Done e q = ((accepted_exactly judge b leads).0 e, q)
-        go (Stopped bad place) e q = absurd (n bad place q)
+        go (Ok _) e q = ((accepted_exactly judge b leads).0 e, q)
+        go (Err stop) e q = absurd (n stop.bad stop.place q)
 
         back : AllGood judge b × (x.r3 ≡ 0) → (told_by show x w).r3 ≡ 0
         back f = ap (λ (v : Walked). (told_by show x v).r3) (is ∙ (accepted_exactly judge b leads).1 f.0) ∙ f.1

@@ -9,7 +9,7 @@ use Rattle.answer.specs.Answer.{told, accepted}
 use Rattle.rules.specs.declared.Usage.TheVariants.{RunInput, Effect}
 use Rattle.gsb.specs.Walk.{judged}
 use Rattle.gsb.specs.First.{AllGood}
-use Rattle.gsb.specs.Lookup.{looked_up}
+use Rattle.gsb.specs.Lookup.{lookup_answer, looked_up}
 use Rattle.store.specs.declared.Layout.{Layout}
 use Rattle.store.specs.Header.{header, live, word}
 use Rattle.admission.specs.Refusals.{Outcome}
@@ -75,4 +75,4 @@ before_form l s guest vcpu b = vcpu_tests l s guest vcpu ++ ((not (is_away l s g
 
 -- ---- 01, "Answers": "Each answer is R3, R4, R5": those of a lookup
 unfoldable pub lookup_told : List ℕ → ℕ → Registers
-lookup_told b id = told Name.Lookup (looked_up b id).answer.fault (looked_up b id).answer.value
+lookup_told b id = told Name.Lookup (lookup_answer (looked_up b id)).fault (lookup_answer (looked_up b id)).value

@@ -11,15 +11,15 @@ use borrow.Author.Tests.{lt-leb, le-leb, leb-true, lt-ltb, le-ltb}
 use Rattle.octets.specs.Bytes.{bytes_at}
 use Rattle.octets.specs.Bits.{bits}
 use Rattle.records.specs.declared.Head.{Head}
-use Rattle.records.specs.declared.Read.{Read}
-use Rattle.records.specs.declared.Read.TheVariants.{Record, Cut, Bad}
-use Rattle.records.specs.Record.{is_kind, head_at, padding, record_at, record_length, head_good, read_head}
+use Rattle.std.specs.Prelude.{Ok, Err}
+use Rattle.records.specs.declared.Unread.TheVariants.{Cut, Bad}
+use Rattle.records.specs.Record.{Read, is_kind, head_at, padding, record_at, record_length, head_good, read_head}
 use Rattle.records.specs.Replay.{is_bad, stops_at}
 use Rattle.records.proofs.Appended.{part_within, bits_first, part_second, bits_second}
 
 -- what is read, by the three tests and the head
 abbrev judged : Bool → Bool → Bool → Head → Read
-judged there good whole h = cond there (cond good (cond whole (Record h) Cut) Bad) Cut
+judged there good whole h = cond there (cond good (cond whole (Ok h) (Err Cut)) (Err Bad)) (Err Cut)
 
 leb_shift : (k m n : ℕ) → leb (k + m) (k + n) ≡ leb m n
 leb_shift k m n = go (dec_lt n m)
@@ -92,9 +92,9 @@ module _ (p z : List ℕ) (at : ℕ) where
 
 -- ---- bytes behind it
 abbrev is_cut : Read → Bool
-is_cut (Record h) = false
-is_cut Cut = true
-is_cut Bad = false
+is_cut (Ok h) = false
+is_cut (Err Cut) = true
+is_cut (Err Bad) = false
 
 module _ (b c : List ℕ) (at : ℕ) where
   module _ (uncut : at + 31 ≤ length b) where
@@ -124,7 +124,7 @@ module _ (b c : List ℕ) (at : ℕ) where
   unfolding read_head
   read_before r e f = go (leb (at + 31) (length b)) refl (head_good b at) refl (leb (at + record_length (head_at b at)) (length b)) refl e
     where
-      none : Cut ≡ r → read_head (b ++ c) at ≡ r
+      none : Err Cut ≡ r → read_head (b ++ c) at ≡ r
       none q = absurd (true≢false (ap is_cut q ∙ f))
 
       go : (x : Bool) → leb (at + 31) (length b) ≡ x → (y : Bool) → head_good b at ≡ y → (w : Bool) → leb (at + record_length (head_at b at)) (length b) ≡ w

@@ -8,7 +8,8 @@ use lib.Dec.{lit<}
 use Rattle.octets.specs.Bytes.{digits}
 use Rattle.octets.specs.Bits.{bit, bits}
 use Rattle.l0.specs.Numbered.{CallRecord}
-use Rattle.records.specs.declared.Read.TheVariants.{Record, Cut}
+use Rattle.std.specs.Prelude.{Ok, Err}
+use Rattle.records.specs.declared.Unread.TheVariants.{Cut}
 use Rattle.records.specs.Record.{is_kind, head_at, padding, head_good, read_head}
 use Rattle.records.specs.Write.{head_number, packed, fits_head, fits_record, Words}
 
@@ -17,7 +18,7 @@ pub example : List ℕ
 example = 120 ∷ 0 ∷ 0 ∷ 0 ∷ 0 ∷ 0 ∷ 0 ∷ 0 ∷ 16 ∷ 0 ∷ 0 ∷ 0 ∷ 0 ∷ 0 ∷ 0 ∷ 0 ∷ 48 ∷ 0 ∷ 0 ∷ 0 ∷ 0 ∷ 0 ∷ 0 ∷ 127 ∷ 254 ∷ 0 ∷ 0 ∷ 1 ∷ 0 ∷ 0 ∷ 64 ∷ 170 ∷ 187 ∷ 204 ∷ []
 
 pub example_read : read_head example 0
-    ≡ Record (record { kind = 7; flags = 9223372036854775809; guest = 3; number = 2047; exit_reason = 3584; data_len = 2; effect_len = 1 })
+    ≡ Ok (record { kind = 7; flags = 9223372036854775809; guest = 3; number = 2047; exit_reason = 3584; data_len = 2; effect_len = 1 })
 unfolding read_head head_good is_kind head_at padding bits bit example
 example_read = refl
 
@@ -35,6 +36,6 @@ unfolding fits_head is_kind example_record
 example_held = (refl, record { flags_fit = lit< tt; guest_fits = lit< tt; number_fits = lit< tt })
 
 -- its effect is cut
-pub example_cut : read_head (take 33 example) 0 ≡ Cut
+pub example_cut : read_head (take 33 example) 0 ≡ Err Cut
 unfolding read_head head_good is_kind head_at padding bits bit example
 example_cut = refl

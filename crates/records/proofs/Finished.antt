@@ -1,12 +1,11 @@
 -- A window played: the last line, what is kept, and whether more is to be read. Assumes nothing.
-use mathlib.Core.Path.{◌≡◌, refl, sym, ap, ap₂, subst, ◌∙◌}
+use mathlib.Core.Path.{◌≡◌, refl, sym, ap, ap₂, ◌∙◌}
 use mathlib.Core.Bool.{Bool, true, false, not, ◌&&◌, ◌||◌, cond, true≢false}
 use mathlib.Core.List.{List, []}
 use Prim.Native.Nat.{ℕ, ◌+◌, ◌-◌, ◌/◌, ◌≤◌}
 use native.Mathlib.Omega.{arith}
 use lib.Dec.{ltb}
 use lib.ListN.{length, take}
-use lib.Seq.{length-take-le}
 use borrow.Author.Tests.{ltb-false}
 use Rattle.octets.specs.Bytes.{bytes_at, put}
 use Rattle.octets.proofs.Bytes.{length_bytes_at, part_of_part}
@@ -14,20 +13,23 @@ use Rattle.text.specs.Text.{Printed}
 use Rattle.text.proofs.Writes.{wrote_then, wrote_nil, wrote_same}
 use Rattle.store.specs.declared.Layout.{Layout}
 use Rattle.records.specs.declared.playing.Stop.{Stop}
-use Rattle.records.specs.declared.playing.Step.{Step}
-use Rattle.records.specs.declared.playing.Replayed.{Replayed}
-use Rattle.records.specs.declared.playing.Replayed.TheVariants.{Refused, Done}
-use Rattle.records.specs.Record.{read_head}
-use Rattle.records.specs.Replay.{bad_line, Played, played_all, is_bad, stops_at, refuses, window_text, windowed, WindowOutcome, replayed, Within}
-use Rattle.records.specs.Private.{Stopped, stopped, Ready}
+use Rattle.std.specs.Prelude.{Some, None}
+use Rattle.std.specs.Prelude.{Ok, Err}
+use Rattle.records.specs.declared.Unread.TheVariants.{Cut, Bad}
+use Rattle.records.specs.Record.{Read, read_head}
+use Rattle.records.specs.Replay.{bad_line, Played, played_all, is_bad, stops_at, refuses, window_text, windowed, WindowOutcome, replayed}
+use Rattle.records.specs.Private.{Stopped, stopped, Ready, reason, is_unread_bad}
 
 zero_add : (i : ℕ) → i ≡ 0 + i
 zero_add i = omega arith
 
--- ---- `is_stop`, `push_end`
-pub stop_ended : (bad ended : Bool) (at filled : ℕ) → bad ≡ false → ended ≡ true → ltb at filled ≡ (bad || (ended && ltb at filled))
-stop_ended bad ended at filled e f = sym (simp (e, f))
+-- ---- why no record follows
+reason_bad : (r : Read) → is_unread_bad (reason r) ≡ is_bad r
+reason_bad (Ok h) = refl
+reason_bad (Err Cut) = refl
+reason_bad (Err Bad) = refl
 
+-- ---- `push_end`
 pub end_stopped : (s : List ℕ) (at : ℕ) (stops : Bool) (offset : ℕ) (t : List ℕ) (r : ℕ) → stops ≡ true → Printed s at (bad_line offset) t r → Printed s at (cond stops (bad_line offset) []) t r
 end_stopped s at stops offset t r e w = wrote_same s at (bad_line offset) _ t r w (sym (ap (λ (x : Bool). cond x (bad_line offset) []) e))
 
@@ -51,9 +53,9 @@ module _ (b t : List ℕ) (p : Played) (st : Stop) (s t₁ : List ℕ) (e : ◌�
   unfolding stopped
   number_is = ap (λ (x : Stopped). x.stop.number) e
 
-  bad_is : st.bad ≡ is_bad (read_head b p.at)
+  bad_is : is_unread_bad st.unread ≡ is_bad (read_head b p.at)
   unfolding stopped
-  bad_is = ap (λ (x : Stopped). x.stop.bad) e
+  bad_is = ap (λ (x : Stopped). is_unread_bad x.stop.unread) e ∙ reason_bad (read_head b p.at)
 
   store_is : s ≡ p.store
   unfolding stopped
@@ -64,10 +66,10 @@ module _ (b t : List ℕ) (p : Played) (st : Stop) (s t₁ : List ℕ) (e : ◌�
   lines_are = record { place = ap (λ (x : Stopped). x.stop.end) e; bytes = ap (λ (x : Stopped). x.text) e }
 
   window_done : (w : List ℕ) (filled offset n : ℕ) (ended z m : Bool) (t₂ v : List ℕ) → b ≡ bytes_at w 0 filled → filled ≤ length w → st.at ≤ filled
-      → z ≡ (st.bad || (ended && ltb st.at filled)) → Printed t₁ st.end (cond z (bad_line (offset + st.at)) []) t₂ n
+      → z ≡ (is_unread_bad st.unread || (ended && ltb st.at filled)) → Printed t₁ st.end (cond z (bad_line (offset + st.at)) []) t₂ n
       → v ≡ put w 0 (bytes_at w st.at (filled - st.at)) → m ≡ not (z || ended)
       → ◌≡◌ {A = WindowOutcome}
-      (record { result = Done (record { kept = filled - st.at; written = n; number = st.number; offset = offset + st.at; more = m }); store = s; window = v; text = t₂ })
+      (record { result = Some (record { kept = filled - st.at; written = n; number = st.number; offset = offset + st.at; more = m }); store = s; window = v; text = t₂ })
       (windowed ended offset b w t p)
   unfolding windowed window_text stops_at
   window_done w filled offset n ended z m t₂ v q h k ez x ev em =
@@ -87,17 +89,17 @@ module _ (b t : List ℕ) (p : Played) (st : Stop) (s t₁ : List ℕ) (e : ◌�
       let off : offset + st.at ≡ offset + p.at = ap (λ (i : ℕ). offset + i) at_is in
       let whole_text : t₂ ≡ put t 0 (window_text ended offset b p) = whole.bytes in
       let window_is : v ≡ put w 0 (bytes_at b p.at (length b - p.at)) = ev ∙ ap (put w 0) front in
-      ap₂ {A = ℕ} {B = ℕ} {C = WindowOutcome} (λ a c. record { result = Done (record { kept = a; written = c; number = st.number; offset = offset + st.at; more = m }); store = s; window = v; text = t₂ }) kept_is long_is
-      ∙ ap₂ {A = ℕ} {B = ℕ} {C = WindowOutcome} (λ a c. record { result = Done (record { kept = length b - p.at; written = length (window_text ended offset b p); number = a; offset = c; more = m }); store = s; window = v; text = t₂ }) number_is off
-      ∙ ap₂ {A = Bool} {B = List ℕ} {C = WindowOutcome} (λ a c. record { result = Done (record { kept = length b - p.at; written = length (window_text ended offset b p); number = p.number; offset = offset + p.at; more = a }); store = c; window = v; text = t₂ }) more_is store_is
-      ∙ ap₂ {A = List ℕ} {B = List ℕ} {C = WindowOutcome} (λ a c. record { result = Done (record { kept = length b - p.at; written = length (window_text ended offset b p); number = p.number; offset = offset + p.at; more = not (stops_at ended b p.at || ended) }); store = p.store; window = a; text = c }) window_is whole_text
+      ap₂ {A = ℕ} {B = ℕ} {C = WindowOutcome} (λ a c. record { result = Some (record { kept = a; written = c; number = st.number; offset = offset + st.at; more = m }); store = s; window = v; text = t₂ }) kept_is long_is
+      ∙ ap₂ {A = ℕ} {B = ℕ} {C = WindowOutcome} (λ a c. record { result = Some (record { kept = length b - p.at; written = length (window_text ended offset b p); number = a; offset = c; more = m }); store = s; window = v; text = t₂ }) number_is off
+      ∙ ap₂ {A = Bool} {B = List ℕ} {C = WindowOutcome} (λ a c. record { result = Some (record { kept = length b - p.at; written = length (window_text ended offset b p); number = p.number; offset = offset + p.at; more = a }); store = c; window = v; text = t₂ }) more_is store_is
+      ∙ ap₂ {A = List ℕ} {B = List ℕ} {C = WindowOutcome} (λ a c. record { result = Some (record { kept = length b - p.at; written = length (window_text ended offset b p); number = p.number; offset = offset + p.at; more = not (stops_at ended b p.at || ended) }); store = p.store; window = a; text = c }) window_is whole_text
 
 pub window_all : (l : Layout) (s₀ w t : List ℕ) (filled number offset n : ℕ) (ended z m : Bool) (st : Stop) (s t₁ t₂ v : List ℕ)
     → ◌≡◌ {A = Stopped} (record { stop = st; store = s; text = t₁ }) (stopped (take filled w) t 0 (played_all l s₀ (take filled w) number))
-    → filled ≤ length w → st.at ≤ length (take filled w) → z ≡ (st.bad || (ended && ltb st.at filled))
+    → filled ≤ length w → st.at ≤ length (take filled w) → z ≡ (is_unread_bad st.unread || (ended && ltb st.at filled))
     → Printed t₁ st.end (cond z (bad_line (offset + st.at)) []) t₂ n → v ≡ put w 0 (bytes_at w st.at (filled - st.at)) → m ≡ not (z || ended)
     → ◌≡◌ {A = WindowOutcome}
-    (record { result = Done (record { kept = filled - st.at; written = n; number = st.number; offset = offset + st.at; more = m }); store = s; window = v; text = t₂ })
+    (record { result = Some (record { kept = filled - st.at; written = n; number = st.number; offset = offset + st.at; more = m }); store = s; window = v; text = t₂ })
     (windowed ended offset (bytes_at w 0 filled) w t (played_all l s₀ (bytes_at w 0 filled) number))
 window_all l s₀ w t filled number offset n ended z m st s t₁ t₂ v e h k ez x ev em =
     let c : filled ≡ length (take filled w) = first_count w filled h in
@@ -107,16 +109,16 @@ window_all l s₀ w t filled number offset n ended z m st s t₁ t₂ v e h k ez
 -- ---- `replay`
 module _ (l : Layout) (s window : List ℕ) (filled : ℕ) (ended : Bool) (number offset : ℕ) (text : List ℕ) (r : Bool) (e : r ≡ not (refuses (length window) filled number offset (length text))) where
   refused_if : (x : Bool) → x ≡ refuses (length window) filled number offset (length text)
-      → replayed l s window filled ended number offset text ≡ cond x (record { result = Refused; store = s; window = window; text = text })
+      → replayed l s window filled ended number offset text ≡ cond x (record { result = None; store = s; window = window; text = text })
       (windowed ended offset (bytes_at window 0 filled) window text (played_all l s (bytes_at window 0 filled) number))
   unfolding replayed
-  refused_if x q = ap (λ (y : Bool). cond y (record { result = Refused; store = s; window = window; text = text }) (windowed ended offset (bytes_at window 0 filled) window text (played_all l s (bytes_at window 0 filled) number))) (sym q)
+  refused_if x q = ap (λ (y : Bool). cond y (record { result = None; store = s; window = window; text = text }) (windowed ended offset (bytes_at window 0 filled) window text (played_all l s (bytes_at window 0 filled) number))) (sym q)
 
   negated : (x y : Bool) → r ≡ y → not x ≡ r → x ≡ not y
   negated true y q h = ap not (h ∙ q)
   negated false y q h = ap not (h ∙ q)
 
-  pub window_refused : r ≡ false → ◌≡◌ {A = WindowOutcome} (record { result = Refused; store = s; window = window; text = text }) (replayed l s window filled ended number offset text)
+  pub window_refused : r ≡ false → ◌≡◌ {A = WindowOutcome} (record { result = None; store = s; window = window; text = text }) (replayed l s window filled ended number offset text)
   window_refused f = sym (refused_if true (sym (negated (refuses (length window) filled number offset (length text)) false f (sym e))))
 
   pub window_played : (o : WindowOutcome) → r ≡ true → o ≡ windowed ended offset (bytes_at window 0 filled) window text (played_all l s (bytes_at window 0 filled) number)
@@ -144,13 +146,3 @@ ready_is window filled number offset text r e f =
     is_false : (x : Bool) → not x ≡ true → x ≡ false
     is_false true q = sym q
     is_false false q = refl
-
--- ---- for a caller that takes the parts
-pub kept_within : (r : Replayed) (step : Step) (window text : ℕ) → Within r window text → r ≡ Done step → step.kept ≤ window
-kept_within r step window text h e = (subst (λ (x : Replayed). Within x window text) e h).0
-
-pub text_within : (r : Replayed) (step : Step) (window text : ℕ) → Within r window text → r ≡ Done step → step.written ≤ text
-text_within r step window text h e = (subst (λ (x : Replayed). Within x window text) e h).1
-
-pub text_part : (r : Replayed) (step : Step) (window : ℕ) (text : List ℕ) → Within r window (length text) → r ≡ Done step → step.written ≡ length (take step.written text)
-text_part r step window text h e = sym (length-take-le step.written text (text_within r step window (length text) h e))

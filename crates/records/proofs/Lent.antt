@@ -8,6 +8,7 @@ use native.Mathlib.Omega.{arith}
 use lib.Dec.{leb, ltb}
 use lib.ListN.{length}
 use borrow.Author.Tests.{le-ltb, leb-true}
+use Rattle.std.specs.Prelude.{Ok, Err}
 use Rattle.octets.specs.Bytes.{zeros}
 use Rattle.octets.proofs.Bytes.{length_zeros}
 use Rattle.answer.specs.declared.Fault.{Fault}
@@ -18,9 +19,7 @@ use Rattle.answer.specs.declared.Call.TheVariants.{RunVcpu}
 use Rattle.answer.specs.Answer.{told}
 use Rattle.rules.specs.Rules.{good_input, good_output}
 use Rattle.store.specs.declared.Layout.{Layout}
-use Rattle.admission.specs.declared.Admission.{Admission}
-use Rattle.admission.specs.declared.Admission.TheVariants.{Admitted, Refused}
-use Rattle.admission.specs.Refusals.{Outcome, refuse, decide, judgement}
+use Rattle.admission.specs.Refusals.{Admission, Outcome, refuse, decide, judgement}
 use Rattle.admission.specs.Target.{target_tests, base_of}
 use Rattle.admission.proofs.Judging.{settle, settle_all, settle_append}
 use Rattle.run.specs.Run.{run_bits, input_size, output_size, lent_tests, input_of, content_tests, run_tests, ran, run_vcpu}
@@ -62,16 +61,16 @@ module _ (l : Layout) (s : List ℕ) (flags guest vcpu : ℕ) (input effect : Li
   abbrev begins : ℕ → Admission
   begins n = judgement (lent_tests s base 0 (length input) n ++ content)
 
-  in_parts : (n : ℕ) → judgement (run_tests l s flags guest vcpu input n effect exit) ≡ settle Refused (begins n) (judgement (target_tests l s run_bits flags false guest vcpu))
+  in_parts : (n : ℕ) → judgement (run_tests l s flags guest vcpu input n effect exit) ≡ settle Err (begins n) (judgement (target_tests l s run_bits flags false guest vcpu))
   in_parts n =
       ap judgement (append_assoc (target_tests l s run_bits flags false guest vcpu) (lent_tests s base 0 (length input) n) content)
-      ∙ settle_append Refused Admitted (target_tests l s run_bits flags false guest vcpu) (lent_tests s base 0 (length input) n ++ content)
+      ∙ settle_append Err (Ok tt) (target_tests l s run_bits flags false guest vcpu) (lent_tests s base 0 (length input) n ++ content)
 
   judged_same : (m n : ℕ) → Alike m n
       → judgement (run_tests l s flags guest vcpu input m effect exit) ≡ judgement (run_tests l s flags guest vcpu input n effect exit)
   judged_same m n h =
       in_parts m
-      ∙ ap (λ (a : Admission). settle Refused a (judgement (target_tests l s run_bits flags false guest vcpu)))
+      ∙ ap (λ (a : Admission). settle Err a (judgement (target_tests l s run_bits flags false guest vcpu)))
       (judged_alike (not (good_input (input_size s base))) (not (good_output size)) (ltb (length input) (input_size s base) || ltb (input_size s base) 0) (ltb m size) (ltb n size)
       (Unregistered Input) (Unregistered Output) (Short Input) (Short Output) content (λ e. h (good_is (good_output size) e)))
       ∙ sym (in_parts n)
@@ -79,8 +78,8 @@ module _ (l : Layout) (s : List ℕ) (flags guest vcpu : ℕ) (input effect : Li
   settled : (u v : List ℕ) (a : Admission)
       → seen (settle (refuse s u) (ran base s (input_of s base input) u effect exit) a) ≡ seen (settle (refuse s v) (ran base s (input_of s base input) v effect exit) a)
   unfolding ran
-  settled u v Admitted = refl
-  settled u v (Refused f) = refl
+  settled u v (Ok tt) = refl
+  settled u v (Err f) = refl
 
   run_seen : (u v : List ℕ) → Alike (length u) (length v)
       → seen (run_vcpu l s flags guest vcpu input u effect exit) ≡ seen (run_vcpu l s flags guest vcpu input v effect exit)

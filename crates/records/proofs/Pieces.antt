@@ -15,9 +15,9 @@ use Rattle.store.specs.declared.Layout.{Layout}
 use Rattle.store.specs.Store.{fresh}
 use Rattle.l0.specs.Numbered.{CallRecord}
 use Rattle.records.specs.declared.Head.{Head}
-use Rattle.records.specs.declared.Read.{Read}
-use Rattle.records.specs.declared.Read.TheVariants.{Record, Cut, Bad}
-use Rattle.records.specs.Record.{head_at, record_at, record_length, head_good, read_head}
+use Rattle.std.specs.Prelude.{Ok, Err}
+use Rattle.records.specs.declared.Unread.TheVariants.{Cut, Bad}
+use Rattle.records.specs.Record.{Read, head_at, record_at, record_length, head_good, read_head}
 use Rattle.records.specs.Replay.{turn, record_line, bad_line, Played, behind, on_record, played, played_all, is_record, is_bad, stops_at, printed, window_text, line_room, refuses, WindowOutcome, windowed, replayed}
 use Rattle.records.specs.Pieces.{Night, night_start, behind_window, fed, fed_all, joined, InPieces, longest, HasRoom, Leads, IsRead, window_bytes, text_bytes, NeverRefused}
 use Rattle.records.proofs.Beside.{read_behind, record_behind, stops_behind, read_before, record_before}
@@ -34,9 +34,8 @@ module _ (l : Layout) (b : List ℕ) where
       go : (r : Read) → read_head b at ≡ r
           → ((x : Head) → at + record_length x ≤ length b → (played f l (turn l s (record_at b at)).store b (at + record_length x) (n + 1)).at ≤ length b)
           → (on l b s at n f r).at ≤ length b
-      go (Record x) e ih = ih x (whole b at x e).inside
-      go Cut e ih = h
-      go Bad e ih = h
+      go (Ok x) e ih = ih x (whole b at x e).inside
+      go (Err u) e ih = h
 
   stop_unread : (f : ℕ) (s : List ℕ) (at n : ℕ) → length b ≤ f + at → is_record (read_head b (played f l s b at n).at) ≡ false
   unfolding played on_record
@@ -46,9 +45,8 @@ module _ (l : Layout) (b : List ℕ) where
       go : (r : Read) → read_head b at ≡ r
           → ((x : Head) → is_record (read_head b (played f l (turn l s (record_at b at)).store b (at + record_length x) (n + 1)).at) ≡ false)
           → is_record (read_head b (on l b s at n f r).at) ≡ false
-      go (Record x) e ih = ih x
-      go Cut e ih = ap is_record e
-      go Bad e ih = ap is_record e
+      go (Ok x) e ih = ih x
+      go (Err u) e ih = ap is_record e
 
   -- a record has more bytes than it adds to the number
   stop_number : (f : ℕ) (s : List ℕ) (at n : ℕ) → (played f l s b at n).number + at ≤ (played f l s b at n).at + n
@@ -59,9 +57,8 @@ module _ (l : Layout) (b : List ℕ) where
       go : (r : Read)
           → ((x : Head) → (played f l (turn l s (record_at b at)).store b (at + record_length x) (n + 1)).number + (at + record_length x) ≤ (played f l (turn l s (record_at b at)).store b (at + record_length x) (n + 1)).at + (n + 1))
           → (on l b s at n f r).number + at ≤ (on l b s at n f r).at + n
-      go (Record x) ih = omega (arith, ih x)
-      go Cut ih = omega arith
-      go Bad ih = omega arith
+      go (Ok x) ih = omega (arith, ih x)
+      go (Err u) ih = omega arith
 
 -- ---- bytes behind: playing goes on where it stopped
 module _ (l : Layout) (b y : List ℕ) where
@@ -79,18 +76,17 @@ module _ (l : Layout) (b y : List ℕ) where
       go : (r : Read) → read_head b at ≡ r
           → ((x : Head) → from (turn l s (record_at b at)).store (at + record_length x) (n + 1) ≡ onward (played f l (turn l s (record_at b at)).store b (at + record_length x) (n + 1)))
           → from s at n ≡ onward (on l b s at n f r)
-      go (Record x) e ih =
+      go (Ok x) e ih =
           let i = whole b at x e in
           let same : record_at (b ++ y) at ≡ record_at b at = record_before b y at (subst (λ (h : Head). at + record_length h ≤ length b) i.is i.inside) in
           let r = record_at b at in
           let line = record_line n x.kind (turn l s (record_at b at)).registers in
           let p = played f l (turn l s r).store b (at + record_length x) (n + 1) in
-          plays l (b ++ y) s at n x (read_before b y at (Record x) e refl)
+          plays l (b ++ y) s at n x (read_before b y at (Ok x) e refl)
           ∙ ap (λ (c : CallRecord). behind (record_line n x.kind (turn l s c).registers) (from (turn l s c).store (at + record_length x) (n + 1))) same
           ∙ ap (behind line) (ih x)
           ∙ sym (ap (λ (z : List ℕ). record { store = (onward p).store; lines = z; at = (onward p).at; number = (onward p).number }) (append_assoc line p.lines (from p.store p.at p.number).lines))
-      go Cut e ih = refl
-      go Bad e ih = refl
+      go (Err u) e ih = refl
 
 -- ---- bytes before: playing is the same at another place
 abbrev later : ℕ → Played → Played
@@ -107,12 +103,11 @@ module _ (l : Layout) (q x : List ℕ) where
       go : (r : Read)
           → ((h : Head) → played f l (turn l s (record_at x at)).store (q ++ x) (length q + (at + record_length h)) (n + 1) ≡ later (length q) (played f l (turn l s (record_at x at)).store x (at + record_length h) (n + 1)))
           → on l (q ++ x) s (length q + at) n f r ≡ later (length q) (on l x s at n f r)
-      go (Record h) ih =
+      go (Ok h) ih =
           let next : length q + at + record_length h ≡ length q + (at + record_length h) = omega arith in
           ap₂ (λ (c : CallRecord) (i : ℕ). behind (record_line n h.kind (turn l s c).registers) (played f l (turn l s c).store (q ++ x) i (n + 1))) (record_behind q x at) next
           ∙ ap (behind (record_line n h.kind (turn l s (record_at x at)).registers)) (ih h)
-      go Cut ih = refl
-      go Bad ih = refl
+      go (Err u) ih = refl
 
   -- all of x, where q was used
   shifted_all : (b : List ℕ) (at : ℕ) → b ≡ q ++ x → length q ≡ at → (s : List ℕ) (n : ℕ) → played (length b - at) l s b at n ≡ later at (played_all l s x n)
@@ -163,12 +158,12 @@ module _ (l : Layout) (s b y : List ℕ) (n offset : ℕ) where
   used_long = length_bytes_at b 0 first.at (omega (arith, first_inside))
 
   -- a bad record: nothing follows it
-  after_bad : read_head b first.at ≡ Bad
+  after_bad : read_head b first.at ≡ Err Bad
       → window_text true offset (b ++ y) (played_all l s (b ++ y) n) ≡ (first.lines ++ bad_line (offset + first.at)) ++ []
   unfolding window_text stops_at
   after_bad e =
       let at = first.at in
-      let bad : read_head (b ++ y) first.at ≡ Bad = read_before b y at Bad e refl in
+      let bad : read_head (b ++ y) first.at ≡ Err Bad = read_before b y at (Err Bad) e refl in
       let here = rests l (b ++ y) (length (b ++ y) - at) first.store at first.number (ap is_record bad) in
       ap (window_text true offset (b ++ y)) (all_played ∙ ap (behind first.lines) here)
       ∙ ap₂ (λ (z : List ℕ) (r : Read). z ++ cond (is_bad r || (true && ltb at (length (b ++ y)))) (bad_line (offset + at)) []) (append-nil first.lines) bad
@@ -196,9 +191,9 @@ module _ (l : Layout) (s b y : List ℕ) (n offset : ℕ) where
       go : (r : Read) → read_head b first.at ≡ r
           → window_text true offset (b ++ y) (played_all l s (b ++ y) n)
           ≡ (first.lines ++ cond (is_bad r || false) (bad_line (offset + first.at)) []) ++ cond (not ((is_bad r || false) || false)) follows []
-      go (Record h) e = after_open
-      go Cut e = after_open
-      go Bad e = after_bad e
+      go (Ok h) e = after_open
+      go (Err Cut) e = after_open
+      go (Err Bad) e = after_bad e
 
 -- ---- all pieces
 module _ (l : Layout) where
@@ -240,21 +235,21 @@ module _ (l : Layout) where
 
 -- ---- what is kept
 -- of a record that is cut fewer bytes are there than the longest has
-cut_short : (b : List ℕ) (at : ℕ) → read_head b at ≡ Cut → length b < at + longest
+cut_short : (b : List ℕ) (at : ℕ) → read_head b at ≡ Err Cut → length b < at + longest
 unfolding read_head
 cut_short b at e = go (leb (at + 31) (length b)) refl (head_good b at) (leb (at + record_length (head_at b at)) (length b)) refl e
   where
     go : (x : Bool) → leb (at + 31) (length b) ≡ x → (y z : Bool) → leb (at + record_length (head_at b at)) (length b) ≡ z
-        → cond x (cond y (cond z (Record (head_at b at)) Cut) Bad) Cut ≡ Cut → length b < at + longest
+        → cond x (cond y (cond z (Ok (head_at b at)) (Err Cut)) (Err Bad)) (Err Cut) ≡ Err Cut → length b < at + longest
     go false p y z q c = let n : length b < at + 31 = leb-false _ _ p in omega arith
     go true p false z q c = absurd (true≢false (ap is_bad c))
     go true p true false q c = let n : length b < at + record_length (head_at b at) = leb-false _ _ q in omega (arith, (head_fits b at).0, (head_fits b at).1)
     go true p true true q c = absurd (true≢false (ap is_record c))
 
-no_record : (r : Read) → is_record r ≡ false → is_bad r ≡ false → r ≡ Cut
-no_record (Record h) e f = absurd (true≢false e)
-no_record Cut e f = refl
-no_record Bad e f = absurd (true≢false f)
+no_record : (r : Read) → is_record r ≡ false → is_bad r ≡ false → r ≡ Err Cut
+no_record (Ok h) e f = absurd (true≢false e)
+no_record (Err Cut) e f = refl
+no_record (Err Bad) e f = absurd (true≢false f)
 
 not_bad : (bad ended x : Bool) → not ((bad || x) || ended) ≡ true → bad ≡ false
 not_bad true ended x e = absurd (true≢false (sym e))

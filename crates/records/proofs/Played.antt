@@ -15,11 +15,12 @@ use Rattle.answer.specs.declared.Registers.{Registers}
 use Rattle.store.specs.declared.Layout.{Layout}
 use Rattle.store.specs.Layout.{layout_of, large, small}
 use Rattle.records.specs.declared.Head.{Head}
-use Rattle.records.specs.declared.Read.{Read}
-use Rattle.records.specs.declared.Read.TheVariants.{Record, Cut, Bad}
-use Rattle.records.specs.Record.{is_kind, head_at, record_at, record_length, head_good, read_head}
-use Rattle.records.specs.Replay.{Turn, turn, record_line, Played, behind, on_record, played, played_all, is_record, is_bad}
-use Rattle.records.specs.Private.{Stopped, stopped}
+use Rattle.std.specs.Prelude.{Ok, Err}
+use Rattle.records.specs.declared.Unread.{Unread}
+use Rattle.records.specs.declared.Unread.TheVariants.{Cut, Bad}
+use Rattle.records.specs.Record.{Read, is_kind, head_at, record_at, record_length, head_good, read_head}
+use Rattle.records.specs.Replay.{Turn, turn, record_line, Played, behind, on_record, played, played_all, is_record}
+use Rattle.records.specs.Private.{Stopped, stopped, reason}
 
 -- ---- what a record read says
 pub record Whole (b : List ℕ) (at : ℕ) (h : Head) : Type 0 where
@@ -30,9 +31,8 @@ pub record Whole (b : List ℕ) (at : ℕ) (h : Head) : Type 0 where
   pub effect_fits : h.effect_len < 2 ^ 17
 
 abbrev head_or : Head → Read → Head
-head_or d (Record h) = h
-head_or d Cut = d
-head_or d Bad = d
+head_or d (Ok h) = h
+head_or d (Err e) = d
 
 both : (a b : Bool) → (a && b) ≡ true → (a ≡ true) × (b ≡ true)
 both true b q = (refl, q)
@@ -49,11 +49,11 @@ pub head_fits : (b : List ℕ) (at : ℕ) → ((head_at b at).data_len < 2 ^ 17)
 unfolding head_at
 head_fits b at = (bits_lt b (8 * at + 208) 17, bits_lt b (8 * at + 225) 17)
 
-pub whole : (b : List ℕ) (at : ℕ) (h : Head) → read_head b at ≡ Record h → Whole b at h
+pub whole : (b : List ℕ) (at : ℕ) (h : Head) → read_head b at ≡ Ok h → Whole b at h
 unfolding read_head
 whole b at h e = go (leb (at + 31) (length b)) (head_good b at) refl (leb (at + record_length (head_at b at)) (length b)) refl e
   where
-    none : {r : Read} → is_record r ≡ false → r ≡ Record h → Whole b at h
+    none : {r : Read} → is_record r ≡ false → r ≡ Ok h → Whole b at h
     none q p = absurd (true≢false (ap is_record (sym p) ∙ q))
 
     found : head_good b at ≡ true → leb (at + record_length (head_at b at)) (length b) ≡ true → head_at b at ≡ h → Whole b at h
@@ -69,14 +69,14 @@ whole b at h e = go (leb (at + 31) (length b)) (head_good b at) refl (leb (at + 
         }
 
     go : (x y : Bool) → head_good b at ≡ y → (z : Bool) → leb (at + record_length (head_at b at)) (length b) ≡ z
-        → cond x (cond y (cond z (Record (head_at b at)) Cut) Bad) Cut ≡ Record h → Whole b at h
+        → cond x (cond y (cond z (Ok (head_at b at)) (Err Cut)) (Err Bad)) (Err Cut) ≡ Ok h → Whole b at h
     go false y g z f q = none refl q
     go true false g z f q = none refl q
     go true true g false f q = none refl q
     go true true g true f q = found g f (ap (head_or h) q)
 
 -- past the end there is no record
-pub none_behind : (b : List ℕ) (at : ℕ) → length b ≤ at → read_head b at ≡ Cut
+pub none_behind : (b : List ℕ) (at : ℕ) → length b ≤ at → read_head b at ≡ Err Cut
 unfolding read_head
 none_behind b at h =
     let l : length b < at + 31 = omega arith in
@@ -107,12 +107,11 @@ module _ (l : Layout) (b : List ℕ) where
     where
       go : (r : Read) → ((h : Head) → played f l (turn l s (record_at b at)).store b (at + record_length h) (n + 1) ≡ played g l (turn l s (record_at b at)).store b (at + record_length h) (n + 1))
           → on s at n f r ≡ on s at n g r
-      go (Record h) ih = ap (behind (record_line n h.kind (turn l s (record_at b at)).registers)) (ih h)
-      go Cut ih = refl
-      go Bad ih = refl
+      go (Ok h) ih = ap (behind (record_line n h.kind (turn l s (record_at b at)).registers)) (ih h)
+      go (Err e) ih = refl
 
   -- ---- a turn of the loop
-  pub plays : (s : List ℕ) (at n : ℕ) (h : Head) → read_head b at ≡ Record h
+  pub plays : (s : List ℕ) (at n : ℕ) (h : Head) → read_head b at ≡ Ok h
       → played (length b - at) l s b at n
       ≡ behind (record_line n h.kind (turn l s (record_at b at)).registers)
       (played (length b - (at + record_length h)) l (turn l s (record_at b at)).store b (at + record_length h) (n + 1))
@@ -131,19 +130,18 @@ module _ (l : Layout) (b : List ℕ) where
   rests (suc f) s at n e = go (read_head b at) e
     where
       go : (r : Read) → is_record r ≡ false → on s at n f r ≡ stays s at n
-      go (Record h) q = absurd (true≢false q)
-      go Cut q = refl
-      go Bad q = refl
+      go (Ok h) q = absurd (true≢false q)
+      go (Err u) q = refl
 
 -- ---- the same with the lines in a text
 module _ (b t : List ℕ) (end : ℕ) where
   pub stopped_here : (l : Layout) (s : List ℕ) (at n : ℕ) (r : Read) → r ≡ read_head b at → is_record r ≡ false
-      → ◌≡◌ {A = Stopped} (record { stop = record { at = at; number = n; end = end; bad = is_bad r }; store = s; text = t }) (stopped b t end (played (length b - at) l s b at n))
+      → ◌≡◌ {A = Stopped} (record { stop = record { at = at; number = n; end = end; unread = reason r }; store = s; text = t }) (stopped b t end (played (length b - at) l s b at n))
   unfolding stopped
   stopped_here l s at n r e f =
       let z : end ≡ end + 0 = omega arith in
-      ap₂ {A = ℕ} {B = List ℕ} {C = Stopped} (λ k x. record { stop = record { at = at; number = n; end = k; bad = is_bad r }; store = s; text = x }) z (sym (put_nil t end))
-      ∙ ap (λ (q : Read). record { stop = record { at = at; number = n; end = end + 0; bad = is_bad q }; store = s; text = put t end [] }) e
+      ap₂ {A = ℕ} {B = List ℕ} {C = Stopped} (λ k x. record { stop = record { at = at; number = n; end = k; unread = reason r }; store = s; text = x }) z (sym (put_nil t end))
+      ∙ ap (λ (q : Read). record { stop = record { at = at; number = n; end = end + 0; unread = reason q }; store = s; text = put t end [] }) e
       ∙ ap (stopped b t end) (sym (rests l b (length b - at) s at n (ap is_record (sym e) ∙ f)))
 
   pub stopped_turn : (line u : List ℕ) (q : ℕ) (p : Played) → Printed t end line u q → stopped b t end (behind line p) ≡ stopped b u q p
@@ -153,10 +151,10 @@ module _ (b t : List ℕ) (end : ℕ) where
       ap (λ (m : ℕ). end + m) (length-append line p.lines) ∙ omega (arith, w.place) in
       let x : put t end (line ++ p.lines) ≡ put u q p.lines =
       put_append t end line p.lines ∙ ap₂ (λ (y : List ℕ) (m : ℕ). put y m p.lines) (sym w.bytes) (sym w.place) in
-      ap₂ {A = ℕ} {B = List ℕ} {C = Stopped} (λ m y. record { stop = record { at = p.at; number = p.number; end = m; bad = is_bad (read_head b p.at) }; store = p.store; text = y }) k x
+      ap₂ {A = ℕ} {B = List ℕ} {C = Stopped} (λ m y. record { stop = record { at = p.at; number = p.number; end = m; unread = reason (read_head b p.at) }; store = p.store; text = y }) k x
 
 -- ---- in the form of the loop's needs
-pub there : (b : List ℕ) (at : ℕ) (r : Read) (h : Head) → r ≡ read_head b at → r ≡ Record h → Whole b at h
+pub there : (b : List ℕ) (at : ℕ) (r : Read) (h : Head) → r ≡ read_head b at → r ≡ Ok h → Whole b at h
 there b at r h e f = whole b at h (sym e ∙ f)
 
 abbrev pub Goal : List ℕ → List ℕ → List ℕ → ℕ → List ℕ → List ℕ → ℕ → ℕ → ℕ → Type 0
@@ -174,7 +172,7 @@ goal_start s b t number =
     ap (λ (k : ℕ). stopped b t 0 (played k (layout_of s) s b 0 number)) e
 
 module _ (s₀ b t₀ : List ℕ) (number : ℕ) (s t : List ℕ) (at end n : ℕ) (g : Goal s₀ b t₀ number s t at end n) (r : Read) (e : r ≡ read_head b at) where
-  pub goal_turn : (h : Head) (a : Registers) (s' u : List ℕ) (q : ℕ) → length s ≡ length s₀ → r ≡ Record h
+  pub goal_turn : (h : Head) (a : Registers) (s' u : List ℕ) (q : ℕ) → length s ≡ length s₀ → r ≡ Ok h
       → ◌≡◌ {A = Turn} (record { registers = a; store = s' }) (turn (layout_of s) s (record_at b at)) → Printed t end (record_line n h.kind a) u q
       → Goal s₀ b t₀ number s' u (at + 31 + h.data_len + h.effect_len) q (n + 1)
   goal_turn h a s' u q w f d p =
@@ -187,13 +185,9 @@ module _ (s₀ b t₀ : List ℕ) (number : ℕ) (s t : List ℕ) (at end n : �
       ∙ ap (λ (k : ℕ). stopped b u q (played (length b - k) l s' b k (n + 1))) there
 
   pub goal_end : is_record r ≡ false
-      → ◌≡◌ {A = Stopped} (record { stop = record { at = at; number = n; end = end; bad = is_bad r }; store = s; text = t }) (stopped b t₀ 0 (played_all (layout_of s₀) s₀ b number))
+      → ◌≡◌ {A = Stopped} (record { stop = record { at = at; number = n; end = end; unread = reason r }; store = s; text = t }) (stopped b t₀ 0 (played_all (layout_of s₀) s₀ b number))
   goal_end f = stopped_here b t end (layout_of s₀) s at n r e f ∙ sym g
 
-  pub goal_cut : r ≡ Cut
-      → ◌≡◌ {A = Stopped} (record { stop = record { at = at; number = n; end = end; bad = false }; store = s; text = t }) (stopped b t₀ 0 (played_all (layout_of s₀) s₀ b number))
-  goal_cut f = ap (λ (x : Read). record { stop = record { at = at; number = n; end = end; bad = is_bad x }; store = s; text = t }) (sym f) ∙ goal_end (ap is_record f)
-
-  pub goal_bad : r ≡ Bad
-      → ◌≡◌ {A = Stopped} (record { stop = record { at = at; number = n; end = end; bad = true }; store = s; text = t }) (stopped b t₀ 0 (played_all (layout_of s₀) s₀ b number))
-  goal_bad f = ap (λ (x : Read). record { stop = record { at = at; number = n; end = end; bad = is_bad x }; store = s; text = t }) (sym f) ∙ goal_end (ap is_record f)
+  pub goal_unread : (u : Unread) → r ≡ Err u
+      → ◌≡◌ {A = Stopped} (record { stop = record { at = at; number = n; end = end; unread = u }; store = s; text = t }) (stopped b t₀ 0 (played_all (layout_of s₀) s₀ b number))
+  goal_unread u f = ap (λ (x : Read). record { stop = record { at = at; number = n; end = end; unread = reason x }; store = s; text = t }) (sym f) ∙ goal_end (ap is_record f)

@@ -14,7 +14,8 @@ use Rattle.octets.proofs.Bytes.{length_bytes_at, part_append}
 use Rattle.octets.proofs.Numbers.{digits_be}
 use Rattle.octets.proofs.Bits.{bits_lt, bits_add, bits_be}
 use Rattle.records.specs.declared.Head.{Head}
-use Rattle.records.specs.declared.Read.TheVariants.{Record, Cut, Bad}
+use Rattle.std.specs.Prelude.{Ok, Err}
+use Rattle.records.specs.declared.Unread.TheVariants.{Cut, Bad}
 use Rattle.records.specs.Record.{is_kind, head_at, padding, record_at, record_length, head_good, read_head}
 use Rattle.records.specs.Write.{head_of, head_number, packed, fits_head, fits_record, Words}
 use Rattle.records.specs.Replay.{is_record}
@@ -38,12 +39,12 @@ both : (a b : Bool) → (a && b) ≡ true → (a ≡ true) × (b ≡ true)
 both true b q = (refl, q)
 both false b q = absurd (true≢false (sym q))
 
-module _ (b : List ℕ) (h : Head) (e : read_head b 0 ≡ Record h) where
+module _ (b : List ℕ) (h : Head) (e : read_head b 0 ≡ Ok h) where
   good_head : head_good b 0 ≡ true
   unfolding read_head
   good_head = go (leb 31 (length b)) (head_good b 0) (leb (0 + record_length (head_at b 0)) (length b)) (ap is_record e)
     where
-      go : (x y z : Bool) → is_record (cond x (cond y (cond z (Record (head_at b 0)) Cut) Bad) Cut) ≡ true → y ≡ true
+      go : (x y z : Bool) → is_record (cond x (cond y (cond z (Ok (head_at b 0)) (Err Cut)) (Err Bad)) (Err Cut)) ≡ true → y ≡ true
       go true true z f = refl
       go true false z f = f
       go false y z f = absurd (true≢false (sym f))

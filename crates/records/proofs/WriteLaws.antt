@@ -20,25 +20,6 @@ use Rattle.records.specs.Write.{head_of, head_number, packed, fits_head, Written
 use Rattle.records.specs.Private.{Narrow}
 use Rattle.records.proofs.Packed.{length_packed, record_put}
 
--- ---- `can_hold`
-module _ (h : Head) (t : Bool) (e : t ≡ is_kind h.kind) where
-  pub hold_kind : t ≡ false → false ≡ fits_head h
-  unfolding fits_head
-  hold_kind f = sym (simp (sym e ∙ f))
-
-  module _ (f : t ≡ true) where
-    pub hold_exit : 4096 ≤ h.exit_reason → false ≡ fits_head h
-    unfolding fits_head
-    hold_exit k = sym (simp (sym e ∙ f, le-ltb _ _ k))
-
-    pub hold_data : h.exit_reason < 4096 → 131072 ≤ h.data_len → false ≡ fits_head h
-    unfolding fits_head
-    hold_data k l = sym (simp (sym e ∙ f, lt-ltb _ _ k, le-ltb _ _ l))
-
-    pub hold_effect : h.exit_reason < 4096 → h.data_len < 131072 → ltb h.effect_len 131072 ≡ fits_head h
-    unfolding fits_head
-    hold_effect k l = sym (simp (sym e ∙ f, lt-ltb _ _ k, lt-ltb _ _ l))
-
 -- ---- what it tells
 and_both : (a b : Bool) → a && b ≡ true → (a ≡ true) × (b ≡ true)
 and_both true b e = (refl, e)

@@ -4,7 +4,7 @@ use Rattle.octets.specs.Bytes.{bytes_at}
 use Rattle.store.specs.declared.Layout.{Layout}
 use Rattle.store.specs.Store.{fresh}
 use Rattle.records.specs.declared.playing.Step.{Step}
-use Rattle.records.specs.declared.playing.Replayed.TheVariants.{Done}
+use Rattle.std.specs.Prelude.{Some}
 use Rattle.records.specs.Replay.{Played, played_all, stops_at, printed, window_text, refuses, WindowOutcome, replayed}
 
 -- ---- a read
@@ -69,7 +69,7 @@ HasRoom l ended t piece = (fed l ended t piece).more ≡ true → length (fed l 
 -- o, what playing a window leaves, is the read that leads from t to u: the bytes kept are the window's first, and what is printed the text's first
 pub record Leads (t u : Night) (o : WindowOutcome) : Type 0 where
   pub step : Step
-  pub result : o.result ≡ Done step
+  pub result : o.result ≡ Some step
   pub store : o.store ≡ u.store
   pub kept : bytes_at o.window 0 step.kept ≡ u.kept
   pub long : step.kept ≡ length u.kept

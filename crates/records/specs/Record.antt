@@ -1,17 +1,21 @@
 -- 02, L9: a call record's bytes. What is read of any bytes at any offset.
-use Rattle.std.specs.Prelude.{ℕ, ◌+◌, ◌*◌, Bool, ◌&&◌, cond, List, eqb, leb, length}
+use Rattle.std.specs.Prelude.{ℕ, ◌+◌, ◌*◌, Bool, ◌&&◌, cond, List, eqb, leb, length, Result, Ok, Err}
 use Rattle.octets.specs.Bytes.{bytes_at}
 use Rattle.octets.specs.Bits.{bits}
 use Rattle.l0.specs.Numbered.{CallRecord}
 use Rattle.records.specs.declared.Head.{Head}
-use Rattle.records.specs.declared.Read.{Read}
-use Rattle.records.specs.declared.Read.TheVariants.{Record, Cut, Bad}
+use Rattle.records.specs.declared.Unread.{Unread}
+use Rattle.records.specs.declared.Unread.TheVariants.{Cut, Bad}
 
 -- "kind (4 bits, 1 to 8 in the order of 01's list of calls)"
 unfoldable pub is_kind : ℕ → Bool
 is_kind k = leb 1 k && leb k 8
 
 -- ---- a record read, from byte `at` on
+-- its head, or why none begins there
+abbrev pub Read : Type 0
+Read = Result Head Unread
+
 -- "packed most significant first: kind (4 bits ..), flags (64), guest (64), vCPU, token or bitmap (64), exit reason (12), lengths of data and of
 -- effect (17 each)"
 unfoldable pub head_at : List ℕ → ℕ → Head
@@ -53,5 +57,5 @@ head_good b at = is_kind (head_at b at).kind && eqb (padding b at) 0
 unfoldable pub read_head : List ℕ → ℕ → Read
 read_head b at =
     cond (leb (at + 31) (length b))
-    (cond (head_good b at) (cond (leb (at + record_length (head_at b at)) (length b)) (Record (head_at b at)) Cut) Bad)
-    Cut
+    (cond (head_good b at) (cond (leb (at + record_length (head_at b at)) (length b)) (Ok (head_at b at)) (Err Cut)) (Err Bad))
+    (Err Cut)

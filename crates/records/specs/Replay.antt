@@ -1,5 +1,5 @@
 -- 02, L9: what the program `replay` prints for the bytes on its standard input.
-use Rattle.std.specs.Prelude.{ℕ, zero, suc, ◌+◌, ◌-◌, ◌/◌, ◌^◌, ◌≤◌, Bool, true, false, not, ◌&&◌, ◌||◌, cond, List, [], ◌++◌, ltb, length}
+use Rattle.std.specs.Prelude.{ℕ, zero, suc, ◌+◌, ◌-◌, ◌/◌, ◌^◌, ◌≤◌, Bool, true, false, not, ◌&&◌, ◌||◌, cond, List, [], ◌++◌, ltb, length, Ok, Err, Option, Some, None}
 use Rattle.octets.specs.Bytes.{bytes_at, put, zeros}
 use Rattle.text.specs.Text.{ascii, decimal}
 use Rattle.answer.specs.declared.Registers.{Registers}
@@ -11,11 +11,9 @@ use Rattle.admission.specs.Target.{base_of}
 use Rattle.run.specs.Run.{output_size}
 use Rattle.l0.specs.Numbered.{CallRecord, Called, kind_name, called}
 use Rattle.records.specs.declared.Head.{Head}
-use Rattle.records.specs.declared.Read.{Read}
-use Rattle.records.specs.declared.Read.TheVariants.{Record, Cut, Bad}
-use Rattle.records.specs.declared.playing.Replayed.{Replayed}
-use Rattle.records.specs.declared.playing.Replayed.TheVariants.{Refused, Done}
-use Rattle.records.specs.Record.{record_at, record_length, read_head}
+use Rattle.records.specs.declared.Unread.TheVariants.{Cut, Bad}
+use Rattle.records.specs.declared.playing.Step.{Step}
+use Rattle.records.specs.Record.{Read, record_at, record_length, read_head}
 
 -- ---- one record played
 -- the size that the vCPU's 0x0C01 holds
@@ -63,9 +61,8 @@ abbrev pub behind : List ℕ → Played → Played
 behind line p = record { store = p.store; lines = line ++ p.lines; at = p.at; number = p.number }
 
 unfoldable pub on_record : Read → (Head → Played) → Played → Played
-on_record (Record h) go stop = go h
-on_record Cut go stop = stop
-on_record Bad go stop = stop
+on_record (Ok h) go stop = go h
+on_record (Err e) go stop = stop
 
 -- the records of b from byte `at` on, the first with number n: at most f of them, up to the first that is cut or bad
 unfoldable pub played : ℕ → Layout → List ℕ → List ℕ → ℕ → ℕ → Played
@@ -82,14 +79,13 @@ unfoldable pub played_all : Layout → List ℕ → List ℕ → ℕ → Played
 played_all l s b n = played (length b) l s b 0 n
 
 abbrev pub is_record : Read → Bool
-is_record (Record h) = true
-is_record Cut = false
-is_record Bad = false
+is_record (Ok h) = true
+is_record (Err e) = false
 
 abbrev pub is_bad : Read → Bool
-is_bad (Record h) = false
-is_bad Cut = false
-is_bad Bad = true
+is_bad (Ok h) = false
+is_bad (Err Cut) = false
+is_bad (Err Bad) = true
 
 -- "the first record that is cut or has another kind or nonzero padding": one is known to be cut where the input has ended in it
 unfoldable pub stops_at : Bool → List ℕ → ℕ → Bool
@@ -105,7 +101,7 @@ printed l b = p.lines ++ cond (stops_at true b p.at) (bad_line p.at) []
 -- ---- the same in windows: the program reads piece by piece
 -- what a window of bytes leaves: the result, the store, the window with what was not used at its front, and the text written
 pub record WindowOutcome : Type 0 where
-  pub result : Replayed
+  pub result : Option Step
   pub store : List ℕ
   pub window : List ℕ
   pub text : List ℕ
@@ -127,7 +123,7 @@ window_text ended offset b p = p.lines ++ cond (stops_at ended b p.at) (bad_line
 unfoldable pub windowed : Bool → ℕ → List ℕ → List ℕ → List ℕ → Played → WindowOutcome
 windowed ended offset b window text p = record {
   result =
-      Done (record {
+      Some (record {
         kept = length b - p.at;
         written = length (window_text ended offset b p);
         number = p.number;
@@ -142,10 +138,10 @@ windowed ended offset b window text p = record {
 unfoldable pub replayed : Layout → List ℕ → List ℕ → ℕ → Bool → ℕ → ℕ → List ℕ → WindowOutcome
 replayed l s window filled ended number offset text =
     cond (refuses (length window) filled number offset (length text))
-    (record { result = Refused; store = s; window = window; text = text })
+    (record { result = None; store = s; window = window; text = text })
     (windowed ended offset (bytes_at window 0 filled) window text (played_all l s (bytes_at window 0 filled) number))
 
 -- what is kept lies within the window and what is written within the text: for callers that take those parts
-abbrev pub Within : Replayed → ℕ → ℕ → Type 0
-Within Refused window text = Unit {0}
-Within (Done step) window text = (step.kept ≤ window) × (step.written ≤ text)
+abbrev pub Within : Option Step → ℕ → ℕ → Type 0
+Within None window text = Unit {0}
+Within (Some step) window text = (step.kept ≤ window) × (step.written ≤ text)

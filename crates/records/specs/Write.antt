@@ -1,5 +1,5 @@
 -- 02, L9: a call record written, and what is read of it again.
-use Rattle.std.specs.Prelude.{ℕ, ◌+◌, ◌*◌, ◌^◌, ◌<◌, ◌≡◌, Bool, not, ◌&&◌, List, [], ◌∷◌, ◌++◌, ltb, length}
+use Rattle.std.specs.Prelude.{ℕ, ◌+◌, ◌*◌, ◌^◌, ◌<◌, ◌≡◌, Bool, not, ◌&&◌, List, [], ◌∷◌, ◌++◌, ltb, length, Ok}
 use Rattle.octets.specs.Bytes.{put, digits}
 use Rattle.answer.specs.declared.Answer.{Answer}
 use Rattle.answer.specs.declared.RunBuffer.TheVariants.{Output}
@@ -8,7 +8,6 @@ use Rattle.answer.specs.declared.Fault.TheVariants.{None, Short, Record}
 use Rattle.answer.specs.Refusals.{first_of}
 use Rattle.l0.specs.Numbered.{CallRecord}
 use Rattle.records.specs.declared.Head.{Head}
-use Rattle.records.specs.declared.Read.TheVariants.{Record as IsRecord}
 use Rattle.records.specs.Record.{is_kind, record_at, read_head}
 
 -- a record's head: "lengths of data and of effect"
@@ -70,7 +69,7 @@ pub record Words (r : CallRecord) : Type 0 where
 
 -- what is read of bytes at an offset is the record r: its head, and the whole of it
 pub record ReadAs (b : List ℕ) (at : ℕ) (r : CallRecord) : Type 0 where
-  pub head : read_head b at ≡ IsRecord (head_of r)
+  pub head : read_head b at ≡ Ok (head_of r)
   pub whole : record_at b at ≡ r
 
 -- a packed record is read as it was, whatever bytes stand before it and behind it

@@ -10,7 +10,7 @@ mod writing;
 ghost use Rattle.std.specs.Prelude.{◌≡◌, ◌+◌, leb};
 ghost use Rattle.records.specs.Record.{is_kind};
 
-pub use playing::{ROOM, Replayed, Step, WINDOW, replay};
+pub use playing::{ROOM, Step, WINDOW, replay};
 pub use reading::read_head;
 pub use writing::write_record;
 
@@ -26,10 +26,9 @@ pub struct Head {
     pub effect_len: usize,
 }
 
-// `Cut`: the bytes end before the record does. `Bad`: no bytes behind them make it a record.
+// Why no record begins at a place. `Cut`: the bytes end before the record does. `Bad`: no bytes behind them make it a record.
 #[derive(Clone, Copy)]
-pub enum Read {
-    Record(Head),
+pub enum Unread {
     Cut,
     Bad,
 }
@@ -38,17 +37,12 @@ pub enum Read {
 fn fits(len: usize, at: usize, n: usize) -> bool
     ensures { result ≡ leb (at + n) len }
 {
-    if len < at {
-        return false;
-    }
-    n <= len - at
+    at <= len && n <= len - at
 }
 
+#[tactic(auto, unfolding(crate::specs::Record::is_kind))]
 fn is_kind(kind: u64) -> bool
     ensures { result ≡ is_kind kind }
 {
-    if kind < 1 {
-        return false;
-    }
-    kind <= 8
+    matches!(kind, 1..=8)
 }

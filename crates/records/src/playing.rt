@@ -1,16 +1,15 @@
 // Records played on a store: each one's call made and its line written, window by window.
-ghost use Rattle.std.specs.Prelude.{◌≡◌, not, ◌&&◌, ◌||◌, cond, [], ltb, ◌+◌, ◌*◌, ◌/◌, ◌≤◌, ◌<◌, length};
+ghost use Rattle.std.specs.Prelude.{◌≡◌, not, ◌&&◌, ◌||◌, cond, [], ltb, ◌+◌, ◌*◌, ◌/◌, ◌≤◌, ◌<◌, length, Some};
 ghost use Rattle.octets.specs.Bytes.{bytes_at, put};
 ghost use Rattle.text.specs.Text.{Printed};
 ghost use Rattle.store.specs.Layout.{layout_of};
 ghost use Rattle.records.specs.Record.{head_at, record_at, record_length};
 ghost use Rattle.records.specs.Replay.{Turn, turn, bad_line, played_all, refuses, WindowOutcome, windowed, replayed, Within};
-ghost use Rattle.records.specs.Private.{Stopped, stopped, Ready};
-ghost use Rattle.records.specs.declared.playing.Replayed.{Replayed};
+ghost use Rattle.records.specs.Private.{Stopped, stopped, Ready, is_unread_bad};
 
 use super::lines::{push_bad, push_record};
 use super::reading::read_head;
-use super::{Head, Read};
+use super::{Head, Unread};
 use answer::{Registers, registers_of};
 use l0::{call, kind_name};
 use octets::copy;
@@ -37,19 +36,13 @@ pub struct Step {
     pub more: bool,
 }
 
-#[derive(Clone, Copy)]
-pub enum Replayed {
-    Refused,
-    Done(Step),
-}
-
-// Where records end: behind the last that was played, whose lines end at `end`; `bad` if what follows is no record, whatever comes.
+// Where records end: behind the last that was played, whose lines end at `end`; and why none follows.
 #[derive(Clone, Copy)]
 pub struct Stop {
     pub at: usize,
     pub number: u64,
     pub end: usize,
-    pub bad: bool,
+    pub unread: Unread,
 }
 
 // The call of the record at `at`. Its data is copied, since get state writes it; the output is longer than any that is registered.
@@ -101,71 +94,40 @@ fn play_all(
     let mut n = number;
     loop {
         match read_head(bytes, at) {
-            Read::Record(h) => {
+            Ok(h) => {
                 let answer = play(store, bytes, at, h, data, output);
                 end = push_record(text, end, n, h.kind, answer);
                 at = at + 31 + h.data_len + h.effect_len;
                 n += 1;
             }
-            Read::Cut => {
+            Err(unread) => {
                 return Stop {
                     at,
                     number: n,
                     end,
-                    bad: false,
-                };
-            }
-            Read::Bad => {
-                return Stop {
-                    at,
-                    number: n,
-                    end,
-                    bad: true,
+                    unread,
                 };
             }
         }
     }
 }
 
-// The n bytes from `from` on moved to the front.
-fn keep(window: &mut [u8], from: usize, n: usize)
-    requires { from + n ≤ length window.old }
-    ensures { window.new ≡ put window.old 0 (bytes_at window.old from n) }
-{
-    let mut i: usize = 0;
-    while i < n {
-        window[i] = window[from + i];
-        i += 1;
-    }
-}
-
 // No sum that might not fit is made before the numbers that it has are tested.
+#[tactic(auto, unfolding(crate::specs::Replay::refuses))]
 fn is_ready(window: usize, filled: usize, number: u64, offset: u64, text: usize) -> bool
     ensures { result ≡ not (refuses window filled number offset text) }
 {
-    if window < filled {
-        return false;
-    }
-    if text / 86 < filled / 31 + 2 {
-        return false;
-    }
-    if offset < number {
-        return false;
-    }
-    offset <= 0xFFFF_FFFF_FFFF_FFFF - filled as u64
+    filled <= window
+        && filled / 31 + 2 <= text / 86
+        && number <= offset
+        && offset <= u64::MAX - filled as u64
 }
 
 // What is no record, whatever comes, and what is cut where the input has ended.
-fn is_stop(bad: bool, ended: bool, at: usize, filled: usize) -> bool
-    ensures { result ≡ (bad || (ended && ltb at filled)) }
+fn is_stop(unread: Unread, ended: bool, at: usize, filled: usize) -> bool
+    ensures { result ≡ (is_unread_bad unread || (ended && ltb at filled)) }
 {
-    if bad {
-        return true;
-    }
-    if ended {
-        return at < filled;
-    }
-    false
+    matches!(unread, Unread::Bad) || ended && at < filled
 }
 
 fn push_end(text: &mut [u8], at: usize, stops: bool, offset: u64) -> usize
@@ -173,18 +135,10 @@ fn push_end(text: &mut [u8], at: usize, stops: bool, offset: u64) -> usize
     ensures { Printed text.old at (cond stops (bad_line offset) []) text.new result × (result ≤ length text.new) }
 {
     if stops {
-        return push_bad(text, at, offset);
+        push_bad(text, at, offset)
+    } else {
+        at
     }
-    at
-}
-
-fn is_open(stops: bool, ended: bool) -> bool
-    ensures { result ≡ not (stops || ended) }
-{
-    if stops {
-        return false;
-    }
-    !ended
 }
 
 // `replay` once its numbers are known to fit.
@@ -200,20 +154,21 @@ fn replay_window(
     output: &mut [u8],
 ) -> Step
     requires { Ready (length window.old) filled number offset (length text.old) × (131071 ≤ length «data».old) × (65536 ≤ length output.old) }
-    ensures fact { ◌≡◌ {A = WindowOutcome} (record { result = Replayed.Done result; store = store.new; window = window.new; text = text.new }) (windowed ended offset (bytes_at window.old 0 filled) window.old text.old (played_all (layout_of store.old) store.old (bytes_at window.old 0 filled) number)) }
+    ensures fact { ◌≡◌ {A = WindowOutcome} (record { result = Some result; store = store.new; window = window.new; text = text.new }) (windowed ended offset (bytes_at window.old 0 filled) window.old text.old (played_all (layout_of store.old) store.old (bytes_at window.old 0 filled) number)) }
     ensures kept_in_bounds { (result.kept ≤ length window.new) × (result.written ≤ length text.new) }
 {
     let s = play_all(store, &window[..filled], number, data, output, text);
     let next = offset + s.at as u64;
-    let stops = is_stop(s.bad, ended, s.at, filled);
+    let stops = is_stop(s.unread, ended, s.at, filled);
     let written = push_end(text, s.end, stops, next);
-    keep(window, s.at, filled - s.at);
+    window.copy_within(s.at..filled, 0);
+    let more = !(stops || ended);
     Step {
         kept: filled - s.at,
         written,
         number: s.number,
         offset: next,
-        more: is_open(stops, ended),
+        more,
     }
 }
 
@@ -227,16 +182,16 @@ pub fn replay(
     number: u64,
     offset: u64,
     text: &mut [u8],
-) -> Replayed
+) -> Option<Step>
     ensures fact { ◌≡◌ {A = WindowOutcome} (record { result = result; store = store.new; window = window.new; text = text.new }) (replayed (layout_of store.old) store.old window.old filled ended number offset text.old) }
     ensures within { Within result (length window.new) (length text.new) }
 {
     if !is_ready(window.len(), filled, number, offset, text.len()) {
-        return Replayed::Refused;
+        return None;
     }
     let mut data = [0u8; DATA];
     let mut output = [0u8; OUTPUT];
-    Replayed::Done(replay_window(
+    Some(replay_window(
         store,
         window,
         filled,

@@ -3,7 +3,7 @@ ghost use Rattle.std.specs.Prelude.{◌≡◌, ◌+◌, ◌*◌, ◌%◌, ◌^�
 ghost use Rattle.records.specs.Record.{padding, read_head};
 ghost use Rattle.records.specs.Private.{Heads};
 
-use super::{Head, Read, fits, is_kind};
+use super::{Head, Unread, fits, is_kind};
 use octets::{get56, get64};
 
 // A number of 64 bits from the fifth bit of a word on; `digit` is its last four, the first of the next word.
@@ -41,21 +41,19 @@ fn padding_at(b: &[u8], at: usize) -> u64
 }
 
 // The record that begins at `at`, or why none does. A head is judged before its data has come.
-pub fn read_head(bytes: &[u8], at: usize) -> Read
+#[tactic(auto, unfolding(crate::specs::Record::read_head, crate::specs::Record::head_good))]
+pub fn read_head(bytes: &[u8], at: usize) -> Result<Head, Unread>
     ensures { result ≡ read_head bytes.now at }
 {
     if !fits(bytes.len(), at, 31) {
-        return Read::Cut;
+        return Err(Unread::Cut);
     }
     let h = head_at(bytes, at);
-    if !is_kind(h.kind) {
-        return Read::Bad;
-    }
-    if padding_at(bytes, at) != 0 {
-        return Read::Bad;
+    if !is_kind(h.kind) || padding_at(bytes, at) != 0 {
+        return Err(Unread::Bad);
     }
     if !fits(bytes.len(), at, 31 + h.data_len + h.effect_len) {
-        return Read::Cut;
+        return Err(Unread::Cut);
     }
-    Read::Record(h)
+    Ok(h)
 }

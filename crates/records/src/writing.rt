@@ -46,19 +46,11 @@ fn put_head(s: &mut [u8], h: Head)
     put56(s, 24, (exit * 0x4_0000_0000 + lengths) * 64);
 }
 
+#[tactic(auto, unfolding(crate::specs::Write::fits_head))]
 fn can_hold(h: Head) -> bool
     ensures { result ≡ fits_head h }
 {
-    if !is_kind(h.kind) {
-        return false;
-    }
-    if 0x1000 <= h.exit_reason {
-        return false;
-    }
-    if 0x2_0000 <= h.data_len {
-        return false;
-    }
-    h.effect_len < 0x2_0000
+    is_kind(h.kind) && h.exit_reason < 0x1000 && h.data_len < 0x2_0000 && h.effect_len < 0x2_0000
 }
 
 // The record in the first bytes; the rest is left. What no record holds is refused whatever is lent.

@@ -1,33 +1,29 @@
 -- The laws of the lines and of the whole listing: nothing else opens these definitions. Assumes nothing.
-use mathlib.Core.Path.{◌≡◌, sym, ap, ap₂, subst, ◌∙◌}
+use mathlib.Core.Path.{◌≡◌, sym, ap, ap₂, ◌∙◌}
 use mathlib.Core.Bool.{Bool, true, false, cond, ◌||◌, true≢false}
 use mathlib.Core.List.{List, [], ◌++◌, append_assoc, append-nil}
 use Prim.Native.Nat.{ℕ, suc, ◌+◌, ◌-◌, ◌*◌, ◌≤◌, ◌<◌}
 use native.Mathlib.Omega.{arith}
 use lib.Dec.{ltb}
-use lib.ListN.{length, take, length-append}
-use lib.Seq.{length-take-le}
+use lib.ListN.{length, length-append}
 use borrow.Author.Tests.{lt-ltb, le-ltb, ltb-false}
 use Rattle.octets.specs.Bytes.{put}
 use Rattle.octets.proofs.Bytes.{put_nil, put_append}
 use Rattle.answer.specs.declared.Bad.{Bad}
-use Rattle.answer.specs.declared.Place.{Place}
 use Rattle.answer.specs.declared.Fault.TheVariants.{Element}
 use Rattle.answer.specs.declared.Call.TheVariants.{SetState}
 use Rattle.answer.specs.declared.Answer.{Answer}
 use Rattle.answer.specs.declared.Registers.{Registers}
 use Rattle.answer.specs.Answer.{told}
-use Rattle.gsb.specs.declared.Verdict.{Verdict}
-use Rattle.gsb.specs.declared.Verdict.TheVariants.{Good, Faulty}
-use Rattle.gsb.specs.declared.Walked.{Walked}
-use Rattle.gsb.specs.declared.Walked.TheVariants.{Done, Stopped}
-use Rattle.gsb.specs.Walk.{count_of, id_at, size_at, bad_length, judged, first_bad}
+use Rattle.gsb.specs.declared.BadElement.{BadElement}
+use Rattle.answer.specs.declared.Fault.{Fault}
+use Rattle.gsb.specs.Walk.{count_of, id_at, size_at, bad_length, judged, first_bad, Verdict, Walked}
 use Rattle.gsb.proofs.Judged.{good_element}
-use Rattle.render.specs.declared.Rendered.{Rendered}
-use Rattle.render.specs.declared.Rendered.TheVariants.{Text, Short}
+use Rattle.std.specs.Prelude.{Some, None}
 use Rattle.text.specs.Text.{Printed, ascii, decimal, hex4}
-use Rattle.render.specs.Listing.{thread_set, first_line, verdict_text, line, on_good, lines, refused_line, last_line, listing, room, RenderOutcome, rendered, Within}
+use Rattle.render.specs.Listing.{thread_set, first_line, verdict_text, line, on_good, lines, refused_line, last_line, listing, room, RenderOutcome, rendered}
 use Rattle.text.proofs.Writes.{wrote_then, wrote_same}
+use Rattle.std.proofs.Common.{Ok, Err}
 
 -- ---- a line, by its parts
 module _ {s : List ℕ} {at : ℕ} {t₁ t₂ t₃ t₄ t₅ : List ℕ} {p₁ p₂ p₃ p₄ p₅ : ℕ} where
@@ -77,11 +73,11 @@ module _ {s : List ℕ} {at : ℕ} {t₁ t₂ t₃ t₄ t₅ : List ℕ} {p₁ p
       ∙ ap (λ (l : List ℕ). decimal index ++ (ascii " " ++ l)) (append_assoc (decimal offset) (ascii " ") rest))
 
 module _ (s : List ℕ) (at : ℕ) (t : List ℕ) (p : ℕ) (v : Verdict) where
-  pub wrote_ok : (next : ℕ) → v ≡ Good next → Printed s at (ascii " ok\n") t p → Printed s at (verdict_text v) t p
+  pub wrote_ok : (next : ℕ) → v ≡ Ok next → Printed s at (ascii " ok\n") t p → Printed s at (verdict_text v) t p
   unfolding verdict_text
   wrote_ok next e w = wrote_same s at (ascii " ok\n") (verdict_text v) t p w (sym (ap verdict_text e))
 
-  pub wrote_bad : (bad : Bad) → v ≡ Faulty bad → Printed s at (ascii " bad\n") t p → Printed s at (verdict_text v) t p
+  pub wrote_bad : (bad : Bad) → v ≡ Err bad → Printed s at (ascii " bad\n") t p → Printed s at (verdict_text v) t p
   unfolding verdict_text
   wrote_bad bad e w = wrote_same s at (ascii " bad\n") (verdict_text v) t p w (sym (ap verdict_text e))
 
@@ -112,12 +108,12 @@ module _ (b : List ℕ) (count i at : ℕ) where
         let t : at + 4 ≤ length b = omega arith in
         turn h ∙ simp (le-ltb _ _ t) (rw (f, g, j))
 
-    lines_good : (next : ℕ) → v ≡ Good next → lines b (count - i) i at ≡ line i at id size v ++ lines b (count - (i + 1)) (i + 1) next
+    lines_good : (next : ℕ) → v ≡ Ok next → lines b (count - i) i at ≡ line i at id size v ++ lines b (count - (i + 1)) (i + 1) next
     unfolding on_good
     lines_good next e =
         lines_line ∙ ap (λ (w : Verdict). line i at id size v ++ on_good w (λ next. lines b (count - (i + 1)) (i + 1) next)) e
 
-    lines_bad : (bad : Bad) → v ≡ Faulty bad → lines b (count - i) i at ≡ line i at id size v
+    lines_bad : (bad : Bad) → v ≡ Err bad → lines b (count - i) i at ≡ line i at id size v
     unfolding on_good
     lines_bad bad e =
         lines_line
@@ -168,13 +164,13 @@ module _ (s : List ℕ) (at : ℕ) (l t : List ℕ) (p : ℕ) (b : List ℕ) (co
 
   module _ (id size : ℕ) (v : Verdict) (u : List ℕ) (q : ℕ) (h : i < count) (r : 4 ≤ length b - offset) (f : id ≡ id_at b offset)
       (g : size ≡ size_at b offset) (j : v ≡ judged thread_set b offset) (w : Printed t p (line i offset id size v) u q) where
-    pub left_good : (next : ℕ) → v ≡ Good next → Left s at l u q (lines b (count - (i + 1)) (i + 1) next)
+    pub left_good : (next : ℕ) → v ≡ Ok next → Left s at l u q (lines b (count - (i + 1)) (i + 1) next)
     left_good next e =
         left_less s at l t p (line i offset id size v) (lines b (count - (i + 1)) (i + 1) next) u q
         (left_same s at l t p _ _ a (lines_good b count i offset id size v h r f g j next e))
         w
 
-    pub left_bad : (bad : Bad) → v ≡ Faulty bad → Printed s at l u q
+    pub left_bad : (bad : Bad) → v ≡ Err bad → Printed s at l u q
     left_bad bad e =
         left_none s at l u q
         (left_less s at l t p (line i offset id size v) [] u q
@@ -182,21 +178,21 @@ module _ (s : List ℕ) (at : ℕ) (l t : List ℕ) (p : ℕ) (b : List ℕ) (co
         w)
 
 -- the element after a good one starts behind its header
-pub next_after : (b : List ℕ) (i at next : ℕ) (v : Verdict) → v ≡ Good next → v ≡ judged thread_set b at → 4 + 4 * i ≤ at → 4 + 4 * (i + 1) ≤ next
+pub next_after : (b : List ℕ) (i at next : ℕ) (v : Verdict) → v ≡ Ok next → v ≡ judged thread_set b at → 4 + 4 * i ≤ at → 4 + 4 * (i + 1) ≤ next
 next_after b i at next v g j h = omega (arith, (good_element thread_set b at next (sym j ∙ g)).1)
 
 -- ---- the last line
 module _ (s : List ℕ) (at : ℕ) (t : List ℕ) (p : ℕ) (b : List ℕ) (w : Walked) (e : w ≡ first_bad thread_set b) where
-  pub wrote_done : w ≡ Done → Printed s at (ascii "answer 0\n") t p → Printed s at (last_line (first_bad thread_set b)) t p
+  pub wrote_done : w ≡ Ok tt → Printed s at (ascii "answer 0\n") t p → Printed s at (last_line (first_bad thread_set b)) t p
   unfolding last_line
   wrote_done d x = wrote_same s at (ascii "answer 0\n") _ t p x (sym (ap last_line (sym e ∙ d)))
 
-  pub wrote_stopped : (bad : Bad) (place : Place) (a : Answer) (r : Registers) → w ≡ Stopped bad place → a ≡ record { fault = Element bad place; value = 0 }
+  pub wrote_stopped : (stop : BadElement) (f : Fault) (a : Answer) (r : Registers) → w ≡ Err stop → f ≡ Element stop.bad stop.place → a ≡ record { fault = f; value = 0 }
       → r ≡ told SetState a.fault a.value → Printed s at (refused_line r) t p → Printed s at (last_line (first_bad thread_set b)) t p
   unfolding last_line
-  wrote_stopped bad place a r d f g x =
+  wrote_stopped stop q a r d k f g x =
       wrote_same s at (refused_line r) _ t p x
-      (ap refused_line (g ∙ ap (λ (z : Answer). told SetState z.fault z.value) f) ∙ sym (ap last_line (sym e ∙ d)))
+      (ap refused_line (g ∙ ap (λ (z : Answer). told SetState z.fault z.value) f ∙ ap (λ (z : Fault). told SetState z 0) k) ∙ sym (ap last_line (sym e ∙ d)))
 
 -- ---- the listing
 
@@ -209,18 +205,18 @@ short_enough b t e h = go (ltb (length b) 4) (sym e ∙ h)
     go false q = ltb-false _ _ q
 
 module _ (b text u : List ℕ) (n : ℕ) where
-  pub rendered_short : length text < room → ◌≡◌ {A = RenderOutcome} (record { result = Short; text = text }) (rendered b text)
+  pub rendered_short : length text < room → ◌≡◌ {A = RenderOutcome} (record { result = None; text = text }) (rendered b text)
   unfolding rendered
   rendered_short h = simp (lt-ltb _ _ h)
 
-  listed : room ≤ length text → Printed text 0 (listing b) u n → ◌≡◌ {A = RenderOutcome} (record { result = Text n; text = u }) (rendered b text)
+  listed : room ≤ length text → Printed text 0 (listing b) u n → ◌≡◌ {A = RenderOutcome} (record { result = Some n; text = u }) (rendered b text)
   unfolding rendered
   listed h w =
       let e : n ≡ length (listing b) = omega (arith, w.place) in
-      ap₂ {A = ℕ} {B = List ℕ} {C = RenderOutcome} (λ m l. record { result = Text m; text = l }) e w.bytes ∙ simp (le-ltb _ _ h)
+      ap₂ {A = ℕ} {B = List ℕ} {C = RenderOutcome} (λ m l. record { result = Some m; text = l }) e w.bytes ∙ simp (le-ltb _ _ h)
 
   pub rendered_length : (t : Bool) → room ≤ length text → t ≡ bad_length b → t ≡ true → Printed text 0 (ascii "answer 5\n") u n
-      → ◌≡◌ {A = RenderOutcome} (record { result = Text n; text = u }) (rendered b text)
+      → ◌≡◌ {A = RenderOutcome} (record { result = Some n; text = u }) (rendered b text)
   unfolding listing
   rendered_length t h e g w =
       let m : bad_length b ≡ true = sym e ∙ g in
@@ -228,7 +224,7 @@ module _ (b text u : List ℕ) (n : ℕ) where
 
   pub rendered_all : (t : Bool) (x y : List ℕ) (p q : ℕ) → room ≤ length text → t ≡ bad_length b → t ≡ false → Printed text 0 (first_line b) x p
       → Printed x p (lines b (count_of b) 0 4) y q → Printed y q (last_line (first_bad thread_set b)) u n
-      → ◌≡◌ {A = RenderOutcome} (record { result = Text n; text = u }) (rendered b text)
+      → ◌≡◌ {A = RenderOutcome} (record { result = Some n; text = u }) (rendered b text)
   unfolding listing
   rendered_all t x y p q h e g v w z =
       let m : bad_length b ≡ false = sym e ∙ g in
@@ -237,9 +233,3 @@ module _ (b text u : List ℕ) (n : ℕ) where
       (wrote_then text 0 (first_line b) (lines b (count_of b) 0 4 ++ last_line (first_bad thread_set b)) x u p n v
       (wrote_then x p (lines b (count_of b) 0 4) (last_line (first_bad thread_set b)) y u q n w z))
       (simp m))
-
-pub within_text : (r : Rendered) (n size : ℕ) → Within r size → r ≡ Text n → n ≤ size
-within_text r n size h e = subst (λ (x : Rendered). Within x size) e h
-
-pub text_part : (r : Rendered) (n : ℕ) (text : List ℕ) → Within r (length text) → r ≡ Text n → n ≡ length (take n text)
-text_part r n text h e = sym (length-take-le n text (within_text r n (length text) h e))

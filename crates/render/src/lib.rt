@@ -10,28 +10,21 @@ use gsb::bad_length;
 use lines::{push_answer, push_first, push_lines};
 use text::push;
 
-// The listing's length, or the lent buffer is too short.
-#[derive(Clone, Copy)]
-pub enum Rendered {
-    Text(usize),
-    Short,
-}
-
 // Room for the longest listing: at most 16,383 lines of 27 characters, the first and the last.
 pub const ROOM: usize = 442496;
 
-pub fn render(b: &[u8], text: &mut [u8]) -> Rendered
+// The listing's length, if the lent buffer has that room.
+pub fn render(b: &[u8], text: &mut [u8]) -> Option<usize>
     ensures fact { ◌≡◌ {A = RenderOutcome} (record { result = result; text = text.new }) (rendered b.now text.old) }
     ensures within { Within result (length text.new) }
 {
     if text.len() < ROOM {
-        return Rendered::Short;
+        return None;
     }
     if bad_length(b) {
-        return Rendered::Text(push(text, 0, b"answer 5\n"));
+        return Some(push(text, 0, b"answer 5\n"));
     }
     let first = push_first(b, text, 0);
     let then = push_lines(b, text, first);
-    let end = push_answer(b, text, then);
-    Rendered::Text(end)
+    Some(push_answer(b, text, then))
 }

@@ -4,12 +4,19 @@ ghost use Rattle.gsb.specs.Walk.{count_of, first_bad};
 ghost use Rattle.text.specs.Text.{Printed};
 ghost use Rattle.render.specs.Listing.{thread_set, first_line, verdict_text, line, lines, refused_line, last_line};
 
-use answer::{Call, Fault, Registers, refusal, registers_of};
+use answer::{Bad, Call, Fault, Registers, refusal, registers_of};
 use elements::Offer;
-use gsb::{Verdict, Walked, first_bad, judge};
+use gsb::{first_bad, judge};
 use octets::{get16, get32};
 use rules::{Context, Usage};
 use text::{push, push_decimal, push_field, push_hex4};
+
+// What the buffer is judged as.
+const THREAD_SET: Context = Context {
+    usage: Usage::ThreadSet,
+    capabilities: 0,
+    offer: Offer::Full,
+};
 
 // The count has at most ten digits, the length five: 32 characters with the words.
 pub fn push_first(b: &[u8], text: &mut [u8], at: usize) -> usize
@@ -24,13 +31,13 @@ pub fn push_first(b: &[u8], text: &mut [u8], at: usize) -> usize
     push(text, end, b"\n")
 }
 
-fn push_verdict(text: &mut [u8], at: usize, verdict: Verdict) -> usize
+fn push_verdict(text: &mut [u8], at: usize, verdict: Result<usize, Bad>) -> usize
     requires { at + 5 ≤ length text.old }
     ensures { Printed text.old at (verdict_text verdict) text.new result × (result ≤ at + 5) }
 {
     match verdict {
-        Verdict::Good(_) => push(text, at, b" ok\n"),
-        Verdict::Faulty(_) => push(text, at, b" bad\n"),
+        Ok(_) => push(text, at, b" ok\n"),
+        Err(_) => push(text, at, b" bad\n"),
     }
 }
 
@@ -42,7 +49,7 @@ fn push_line(
     offset: usize,
     id: u16,
     size: usize,
-    verdict: Verdict,
+    verdict: Result<usize, Bad>,
 ) -> usize
     requires { (index < 100000) × (offset < 100000) × (size < 100000) × (at + 27 ≤ length text.old) }
     ensures { Printed text.old at (line index offset id size verdict) text.new result × (result ≤ at + 27) }
@@ -63,25 +70,18 @@ pub fn push_lines(b: &[u8], text: &mut [u8], at: usize) -> usize
     let count = get32(b, 0) as usize;
     let mut end = at;
     let mut offset = 4;
-    let mut index = 0;
-    while index < count {
+    for index in 0..count {
         if b.len() - offset < 4 {
             return end;
         }
         let id = get16(b, offset);
         let size = get16(b, offset + 2) as usize;
-        let k = Context {
-            usage: Usage::ThreadSet,
-            capabilities: 0,
-            offer: Offer::Full,
-        };
-        let verdict = judge(b, offset, k);
+        let verdict = judge(b, offset, THREAD_SET);
         end = push_line(text, end, index, offset, id, size, verdict);
-        let Verdict::Good(next) = verdict else {
+        let Ok(next) = verdict else {
             return end;
         };
         offset = next;
-        index += 1;
     }
     end
 }
@@ -103,17 +103,12 @@ pub fn push_answer(b: &[u8], text: &mut [u8], at: usize) -> usize
     requires { (4 ≤ length b.now) × (at + 83 ≤ length text.old) }
     ensures { Printed text.old at (last_line (first_bad thread_set b.now)) text.new result × (result ≤ at + 83) }
 {
-    let k = Context {
-        usage: Usage::ThreadSet,
-        capabilities: 0,
-        offer: Offer::Full,
-    };
-    match first_bad(b, k) {
-        Walked::Done => push(text, at, b"answer 0\n"),
-        Walked::Stopped(bad, place) => push_refused(
+    match first_bad(b, THREAD_SET) {
+        Ok(()) => push(text, at, b"answer 0\n"),
+        Err(stop) => push_refused(
             text,
             at,
-            registers_of(Call::SetState, refusal(Fault::Element(bad, place))),
+            registers_of(Call::SetState, refusal(Fault::from(stop))),
         ),
     }
 }

@@ -3,7 +3,7 @@
 
 ghost use Rattle.std.specs.Prelude.{◌≡◌, length};
 
-use records::{ROOM, Replayed, WINDOW, replay};
+use records::{ROOM, WINDOW, replay};
 use std::io;
 use std::io::{Read, Write};
 
@@ -25,8 +25,7 @@ fn replay_input(
     for _ in 0..u64::MAX {
         // What cannot be read is the end of the input, as if it had been cut there.
         let n = input.read(&mut window[kept..]).unwrap_or(0);
-        let Replayed::Done(step) = replay(store, window, kept + n, n == 0, number, offset, text)
-        else {
+        let Some(step) = replay(store, window, kept + n, n == 0, number, offset, text) else {
             break;
         };
         output.write_all(&text[..step.written])?;

@@ -34,56 +34,40 @@ pub struct Context {
 fn in_guest(s: Scope) -> bool
     ensures { result ≡ same_scope Scope.Guest s }
 {
-    match s {
-        Scope::Guest => true,
-        Scope::Thread => false,
-    }
+    matches!(s, Scope::Guest)
 }
 
 fn in_thread(s: Scope) -> bool
     ensures { result ≡ same_scope Scope.Thread s }
 {
-    match s {
-        Scope::Guest => false,
-        Scope::Thread => true,
-    }
+    matches!(s, Scope::Thread)
 }
 
 fn may_read(a: Access) -> bool
     ensures { result ≡ readable a }
 {
-    match a {
-        Access::Read => true,
-        Access::Write => false,
-        Access::ReadWrite => true,
-    }
+    matches!(a, Access::Read | Access::ReadWrite)
 }
 
 fn may_write(a: Access) -> bool
     ensures { result ≡ writable a }
 {
-    match a {
-        Access::Read => false,
-        Access::Write => true,
-        Access::ReadWrite => true,
-    }
+    matches!(a, Access::Write | Access::ReadWrite)
 }
 
 pub fn within(low: u64, high: u64, n: u64) -> bool
     ensures { result ≡ between low high n }
 {
-    if n < low {
-        return false;
-    }
-    n <= high
+    (low..=high).contains(&n)
 }
 
+#[tactic(auto, unfolding(crate::specs::Rules::allows))]
 fn allowed(usage: Usage, id: u16, x: Entry) -> bool
     ensures { result ≡ allows usage id x }
 {
     let access = x.access;
     let scope = x.scope;
-    let n = id as u64;
+    let n = u64::from(id);
     match usage {
         Usage::GuestGet => in_guest(scope) & may_read(access),
         Usage::GuestSet => in_guest(scope) & may_write(access),
@@ -94,18 +78,18 @@ fn allowed(usage: Usage, id: u16, x: Entry) -> bool
     }
 }
 
+#[tactic(auto, unfolding(crate::specs::Rules::permits))]
 pub fn permitted(k: Context, id: u16, kind: Kind) -> bool
     ensures { result ≡ permits k id kind }
 {
-    let usage = k.usage;
-    let offer = k.offer;
     match kind {
         Kind::Unlisted => false,
         Kind::Nop => true,
-        Kind::Listed(x) => allowed(usage, id, x) & is_offered(offer, id),
+        Kind::Listed(x) => allowed(k.usage, id, x) & is_offered(k.offer, id),
     }
 }
 
+#[tactic(auto, unfolding(crate::specs::Rules::size_fits))]
 pub fn right_size(kind: Kind, size: usize) -> bool
     ensures { result ≡ size_fits kind size }
 {
@@ -120,12 +104,5 @@ pub fn right_size(kind: Kind, size: usize) -> bool
 pub fn of_thread(usage: Usage) -> bool
     ensures { result ≡ of_thread usage }
 {
-    match usage {
-        Usage::GuestGet => false,
-        Usage::GuestSet => false,
-        Usage::ThreadGet => true,
-        Usage::ThreadSet => true,
-        Usage::RunInput => true,
-        Usage::Effect => true,
-    }
+    !matches!(usage, Usage::GuestGet | Usage::GuestSet)
 }

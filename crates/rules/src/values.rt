@@ -6,57 +6,63 @@ ghost use Rattle.rules.specs.Rules.{size_fits, good_input, good_output, good_pvr
 use super::{Context, Usage, within};
 use octets::{get32, get64};
 
+// The logical PVRs that a guest may have, and the elements whose values have a rule.
+const POWER9: u32 = 0x0F00_0005;
+
+const POWER10: u32 = 0x0F00_0006;
+
+const LOGICAL_PVR: u16 = 0x0003;
+
+const RUN_INPUT: u16 = 0x0C00;
+
+const RUN_OUTPUT: u16 = 0x0C01;
+
+// The sizes of run buffers.
+const MIN_INPUT: u64 = 4;
+
+const MIN_OUTPUT: u64 = 124;
+
+const MAX_BUFFER: u64 = 65536;
+
 pub fn good_input(n: u64) -> bool
     ensures { result ≡ good_input n }
 {
-    within(4, 65536, n)
+    within(MIN_INPUT, MAX_BUFFER, n)
 }
 
 pub fn good_output(n: u64) -> bool
     ensures { result ≡ good_output n }
 {
-    within(124, 65536, n)
+    within(MIN_OUTPUT, MAX_BUFFER, n)
 }
 
+#[tactic(auto, unfolding(crate::specs::Rules::good_pvr))]
 fn good_pvr(capabilities: u64, v: u32) -> bool
     ensures { result ≡ good_pvr capabilities v }
 {
-    if v == 0x0F00_0005 {
-        return (capabilities >> 62) % 2 == 1;
+    match v {
+        POWER9 => (capabilities >> 62) % 2 == 1,
+        POWER10 => (capabilities >> 61) % 2 == 1,
+        _ => false,
     }
-    if v == 0x0F00_0006 {
-        return (capabilities >> 61) % 2 == 1;
-    }
-    false
 }
 
 fn setting(usage: Usage) -> bool
     ensures { result ≡ is_setting usage }
 {
-    match usage {
-        Usage::GuestGet => false,
-        Usage::GuestSet => true,
-        Usage::ThreadGet => false,
-        Usage::ThreadSet => true,
-        Usage::RunInput => true,
-        Usage::Effect => true,
-    }
+    !matches!(usage, Usage::GuestGet | Usage::ThreadGet)
 }
 
 fn meets_rule(capabilities: u64, id: u16, size: usize, b: &[u8], at: usize) -> bool
     requires { (size_fits (kind_of id) size ≡ true) × (at + size ≤ length b.now) }
     ensures { result ≡ rule_of capabilities id b.now at }
 {
-    if id == 0x0003 {
-        return good_pvr(capabilities, get32(b, at));
+    match id {
+        LOGICAL_PVR => good_pvr(capabilities, get32(b, at)),
+        RUN_INPUT => good_input(get64(b, at + 8)),
+        RUN_OUTPUT => good_output(get64(b, at + 8)),
+        _ => true,
     }
-    if id == 0x0C00 {
-        return good_input(get64(b, at + 8));
-    }
-    if id == 0x0C01 {
-        return good_output(get64(b, at + 8));
-    }
-    true
 }
 
 // The registers come first: the three IDs with a rule are below them.
@@ -67,10 +73,8 @@ pub fn good_value(k: Context, id: u16, size: usize, b: &[u8], at: usize) -> bool
     if 0x1000 <= id {
         return true;
     }
-    let usage = k.usage;
-    let capabilities = k.capabilities;
-    if !setting(usage) {
+    if !setting(k.usage) {
         return true;
     }
-    meets_rule(capabilities, id, size, b, at)
+    meets_rule(k.capabilities, id, size, b, at)
 }

@@ -1,6 +1,6 @@
 -- 01, "Run", and "Answers": "run 1, 2, 3, 4, 11, 12, the input's elements, 13, 14"; "Within 11 and 12 input comes first." 02, L1's 16 is
 -- right behind 4.
-use Rattle.std.specs.Prelude.{ℕ, ◌+◌, ◌^◌, Bool, false, not, ◌||◌, List, [], ◌∷◌, ◌++◌, ltb, length}
+use Rattle.std.specs.Prelude.{ℕ, ◌+◌, ◌^◌, Bool, false, not, ◌||◌, List, [], ◌∷◌, ◌++◌, ltb, length, Ok, Err}
 use Rattle.octets.specs.Bytes.{bytes_at, put, be}
 use Rattle.answer.specs.declared.RunBuffer.TheVariants.{Input, Output}
 use Rattle.answer.specs.declared.Fault.{Fault}
@@ -10,9 +10,7 @@ use Rattle.rules.specs.declared.Context.{Context}
 use Rattle.rules.specs.declared.Usage.TheVariants.{RunInput, Effect as InEffect}
 use Rattle.elements.specs.Table.{position}
 use Rattle.rules.specs.Rules.{good_input, good_output}
-use Rattle.gsb.specs.declared.Walked.{Walked}
-use Rattle.gsb.specs.declared.Walked.TheVariants.{Done, Stopped}
-use Rattle.gsb.specs.Walk.{count_of, bad_length, first_bad, is_stopped}
+use Rattle.gsb.specs.Walk.{count_of, bad_length, first_bad, is_stopped, Walked}
 use Rattle.store.specs.declared.Layout.{Layout}
 use Rattle.transfer.specs.Transfer.{applied}
 use Rattle.exits.specs.Exits.{known, output_of}
@@ -43,8 +41,8 @@ lent_tests s base need inputLength output_length =
 
 -- 13: "unknown exit reason"; 14: "bad effect buffer", with the "byte offset of its first bad element, 0 if its length is bad"
 abbrev pub effect_fault : Walked → Fault
-effect_fault Done = None
-effect_fault (Stopped bad place) = Effect place
+effect_fault (Ok _) = None
+effect_fault (Err stop) = Effect stop.place
 
 abbrev pub exit_tests : Context → List ℕ → ℕ → List (Bool × Fault)
 exit_tests k effect exit =

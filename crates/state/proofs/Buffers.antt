@@ -5,6 +5,7 @@ use mathlib.Core.List.{List, [], ◌++◌}
 use Prim.Native.Nat.{ℕ, ◌+◌, ◌≤◌}
 use native.Mathlib.Omega.{arith}
 use lib.ListN.{length}
+use Rattle.std.specs.Prelude.{Result, Ok, Err}
 use Rattle.octets.specs.Bytes.{be}
 use Rattle.answer.specs.declared.Answer.{Answer}
 use Rattle.answer.specs.declared.Bad.{Bad}
@@ -21,9 +22,8 @@ use Rattle.elements.specs.Table.{position, below, table}
 use Rattle.elements.specs.Later.{offer_of}
 use Rattle.elements.specs.Right.{bytes_of}
 use Rattle.rules.specs.Rules.{scope_for}
-use Rattle.gsb.specs.declared.Walked.{Walked}
-use Rattle.gsb.specs.declared.Walked.TheVariants.{Done, Stopped}
-use Rattle.gsb.specs.Walk.{count_of, bad_length, first_bad, is_stopped, fault_of}
+use Rattle.gsb.specs.declared.BadElement.{BadElement}
+use Rattle.gsb.specs.Walk.{count_of, bad_length, first_bad, is_stopped, fault_of, Walked, stopped_at}
 use Rattle.gsb.proofs.Walks.{long_enough}
 use Rattle.store.specs.declared.Layout.{Layout}
 use Rattle.store.specs.Layout.{layout_of, guest_bytes, slot_bytes, guest_at}
@@ -31,11 +31,7 @@ use Rattle.store.specs.Header.{header, capabilities_of}
 use Rattle.store.proofs.Sizes.{sized_sound}
 use Rattle.transfer.specs.Transfer.{applied, filled, AllReady}
 use Rattle.transfer.proofs.Accepted.{ready_all}
-use Rattle.admission.specs.declared.Admission.{Admission}
-use Rattle.admission.specs.declared.Admission.TheVariants.{Admitted, Refused}
-use Rattle.admission.specs.declared.Target.{Target}
-use Rattle.admission.specs.declared.Target.TheVariants.{Refused as TargetRefused, At}
-use Rattle.admission.specs.Refusals.{Outcome, success, refusal, accept, refuse, decide, judgement, has_bit0}
+use Rattle.admission.specs.Refusals.{Admission, Outcome, success, refusal, accept, refuse, decide, judgement, has_bit0}
 use Rattle.admission.specs.Target.{target_tests, base_of, target_of}
 use Rattle.state.specs.State.{context_of, buffer_tests, supported_bits, set_use, set_elements, get_use, fill_with, get_elements}
 use Rattle.state.specs.Private.{buffer_good, set_at, get_at, bytes_for}
@@ -63,7 +59,7 @@ context_use l s guest usage k e = ap (λ (y : Context). y.usage) e
 
 -- ---- the answers of `judge_buffer`
 module _ (k : Context) (b : List ℕ) (t : Bool) (e : t ≡ bad_length b) where
-  pub buffer_length : t ≡ true → Refused Length ≡ buffer_good k b
+  pub buffer_length : t ≡ true → Err Length ≡ buffer_good k b
   unfolding buffer_good
   buffer_length h = let m : bad_length b ≡ true = sym e ∙ h in sym (simp m)
 
@@ -71,13 +67,13 @@ module _ (k : Context) (b : List ℕ) (t : Bool) (e : t ≡ bad_length b) where
     good_length : bad_length b ≡ false
     good_length = sym e ∙ h
 
-    pub buffer_bad : (bad : Bad) (place : Place) → w ≡ Stopped bad place → Refused (Element bad place) ≡ buffer_good k b
+    pub buffer_bad : (stop : BadElement) (f : Fault) → w ≡ Err stop → f ≡ Element stop.bad stop.place → Err f ≡ buffer_good k b
     unfolding buffer_good
-    buffer_bad bad place d = sym (simp good_length (ap (λ (x : Walked). cond (is_stopped x) (Refused (fault_of x)) Admitted) (sym q ∙ d)))
+    buffer_bad stop f d e = ap (λ (x : Fault). Err x) e ∙ sym (simp good_length (ap (λ (x : Walked). cond (is_stopped x) (Err (fault_of x)) (Ok tt)) (sym q ∙ d)))
 
-    pub buffer_done : w ≡ Done → Admitted ≡ buffer_good k b
+    pub buffer_done : w ≡ Ok tt → Ok tt ≡ buffer_good k b
     unfolding buffer_good
-    buffer_done d = sym (simp good_length (ap (λ (x : Walked). cond (is_stopped x) (Refused (fault_of x)) Admitted) (sym q ∙ d)))
+    buffer_done d = sym (simp good_length (ap (λ (x : Walked). cond (is_stopped x) (Err (fault_of x)) (Ok tt)) (sym q ∙ d)))
 
 -- ---- a buffer that was admitted can be moved
 room_for : (u : Usage) → bytes_for u ≡ bytes_of (scope_for u)
@@ -88,22 +84,19 @@ room_for ThreadSet = refl
 room_for RunInput = refl
 room_for Effect = refl
 
-no_refusal : {f : Fault} → Refused f ≡ Admitted → ⊥
-no_refusal e = let z : ◌≡◌ {A = ℕ} 0 1 = cc in omega arith
+pub walk_done : (w : Walked) (f : Walked → Fault) → ◌≡◌ {A = Admission} (cond (is_stopped w) (Err (f w)) (Ok tt)) (Ok tt) → w ≡ Ok tt
+walk_done (Ok _) f e = refl
+walk_done (Err stop) f e = cc
 
-pub walk_done : (w : Walked) (f : Walked → Fault) → cond (is_stopped w) (Refused (f w)) Admitted ≡ Admitted → w ≡ Done
-walk_done Done f e = refl
-walk_done (Stopped bad place) f e = absurd (no_refusal e)
-
-pub good_buffer : (k : Context) (b : List ℕ) → judgement (buffer_tests k b) ≡ Admitted → (bad_length b ≡ false) × (first_bad k b ≡ Done)
+pub good_buffer : (k : Context) (b : List ℕ) → judgement (buffer_tests k b) ≡ Ok tt → (bad_length b ≡ false) × (first_bad k b ≡ Ok tt)
 good_buffer k b e = go (bad_length b) e
   where
-    go : (t : Bool) → cond t (Refused Length) (cond (is_stopped (first_bad k b)) (Refused (fault_of (first_bad k b))) Admitted) ≡ Admitted
-        → (t ≡ false) × (first_bad k b ≡ Done)
-    go true q = absurd (no_refusal q)
+    go : (t : Bool) → ◌≡◌ {A = Admission} (cond t (Err Length) (cond (is_stopped (first_bad k b)) (Err (fault_of (first_bad k b))) (Ok tt))) (Ok tt)
+        → (t ≡ false) × (first_bad k b ≡ Ok tt)
+    go true q = cc
     go false q = (refl, walk_done (first_bad k b) fault_of q)
 
-pub ready_as : (k : Context) (base len : ℕ) (b : List ℕ) → first_bad k b ≡ Done → base + bytes_for k.usage ≤ len → 4 ≤ length b → AllReady base b len
+pub ready_as : (k : Context) (base len : ℕ) (b : List ℕ) → first_bad k b ≡ Ok tt → base + bytes_for k.usage ≤ len → 4 ≤ length b → AllReady base b len
 ready_as k base len b d room h = let r : base + bytes_of (scope_for k.usage) ≤ len = omega (arith, room_for k.usage) in ready_all k base len r b h d
 
 module _ (k : Context) (b : List ℕ) (a : Admission) (q : a ≡ buffer_good k b) where
@@ -111,30 +104,30 @@ module _ (k : Context) (b : List ℕ) (a : Admission) (q : a ≡ buffer_good k b
   unfolding buffer_good
   judged = refl
 
-  pub ready : (base len : ℕ) → base + bytes_for k.usage ≤ len → a ≡ Admitted → AllReady base b len
+  pub ready : (base len : ℕ) → base + bytes_for k.usage ≤ len → a ≡ Ok tt → AllReady base b len
   ready base len room d =
       let p = good_buffer k b (sym judged ∙ sym q ∙ d) in
       ready_as k base len b p.1 room (long_enough b (bad_length b) refl p.0)
 
-  module _ (s : List ℕ) (base : ℕ) (r : Answer) where
-    pub set_bad : (f : Fault) → a ≡ Refused f → r ≡ refusal f → ◌≡◌ {A = Outcome} (record { answer = r; store = s; buffer = [] }) (set_at s base k b)
+  module _ (s : List ℕ) (base : ℕ) where
+    pub set_bad : (f : Fault) → a ≡ Err f → ◌≡◌ {A = Outcome} (record { answer = refusal f; store = s; buffer = [] }) (set_at s base k b)
     unfolding set_at decide
-    set_bad f d i = ap (λ (x : Answer). record { answer = x; store = s; buffer = [] }) i ∙ sym (all_refused (refuse s []) (accept 0 (applied base b (count_of b) s)) (buffer_tests k b) f (sym judged ∙ sym q ∙ d))
+    set_bad f d = sym (all_refused (refuse s []) (accept 0 (applied base b (count_of b) s)) (buffer_tests k b) f (sym judged ∙ sym q ∙ d))
 
-    pub set_done : (u : List ℕ) → a ≡ Admitted → u ≡ applied base b (count_of b) s → r ≡ success 0 → ◌≡◌ {A = Outcome} (record { answer = r; store = u; buffer = [] }) (set_at s base k b)
+    pub set_done : (u : List ℕ) → a ≡ Ok tt → u ≡ applied base b (count_of b) s → ◌≡◌ {A = Outcome} (record { answer = success 0; store = u; buffer = [] }) (set_at s base k b)
     unfolding set_at decide
-    set_done u d g i =
-        ap₂ (λ (x : Answer) (y : List ℕ). record { answer = x; store = y; buffer = [] }) i g
+    set_done u d g =
+        ap (λ (y : List ℕ). record { answer = success 0; store = y; buffer = [] }) g
         ∙ sym (all_admitted (refuse s []) (accept 0 (applied base b (count_of b) s)) (buffer_tests k b) (sym judged ∙ sym q ∙ d))
 
-    pub get_bad : (f : Fault) → a ≡ Refused f → r ≡ refusal f → ◌≡◌ {A = Outcome} (record { answer = r; store = s; buffer = b }) (get_at s base k b)
+    pub get_bad : (f : Fault) → a ≡ Err f → ◌≡◌ {A = Outcome} (record { answer = refusal f; store = s; buffer = b }) (get_at s base k b)
     unfolding get_at decide
-    get_bad f d i = ap (λ (x : Answer). record { answer = x; store = s; buffer = b }) i ∙ sym (all_refused (refuse s b) (fill_with s base b) (buffer_tests k b) f (sym judged ∙ sym q ∙ d))
+    get_bad f d = sym (all_refused (refuse s b) (fill_with s base b) (buffer_tests k b) f (sym judged ∙ sym q ∙ d))
 
-    pub get_done : (u : List ℕ) → a ≡ Admitted → u ≡ filled base s b (count_of b) → r ≡ success 0 → ◌≡◌ {A = Outcome} (record { answer = r; store = s; buffer = u }) (get_at s base k b)
+    pub get_done : (u : List ℕ) → a ≡ Ok tt → u ≡ filled base s b (count_of b) → ◌≡◌ {A = Outcome} (record { answer = success 0; store = s; buffer = u }) (get_at s base k b)
     unfolding get_at decide
-    get_done u d g i =
-        ap₂ (λ (x : Answer) (y : List ℕ). record { answer = x; store = s; buffer = y }) i g ∙ sym (all_admitted (refuse s b) (fill_with s base b) (buffer_tests k b) (sym judged ∙ sym q ∙ d))
+    get_done u d g =
+        ap (λ (y : List ℕ). record { answer = success 0; store = s; buffer = y }) g ∙ sym (all_admitted (refuse s b) (fill_with s base b) (buffer_tests k b) (sym judged ∙ sym q ∙ d))
 
 -- ---- the calls, by their target
 -- how many bytes the values of a target take
@@ -156,11 +149,11 @@ module _ (l : Layout) (s : List ℕ) (guest : ℕ) (wide : Bool) (u : Usage) (k 
   pub get_room : u ≡ get_use wide → base + bytes_for k.usage ≤ n
   get_room e = omega (arith, h, g, used, get_bytes wide, ap bytes_for e)
 
-pub element_bits : (l : Layout) (s : List ℕ) (flags : ℕ) (wide : Bool) (guest vcpu : ℕ) (a : Target) (x : ℕ) → x ≡ supported_bits wide → a ≡ target_of l s x flags wide guest vcpu
+pub element_bits : (l : Layout) (s : List ℕ) (flags : ℕ) (wide : Bool) (guest vcpu : ℕ) (a : Result ℕ Fault) (x : ℕ) → x ≡ supported_bits wide → a ≡ target_of l s x flags wide guest vcpu
     → a ≡ target_of l s (supported_bits wide) flags wide guest vcpu
 element_bits l s flags wide guest vcpu a x m q = q ∙ ap (λ (y : ℕ). target_of l s y flags wide guest vcpu) m
 
-module _ (l : Layout) (s : List ℕ) (flags : ℕ) (wide : Bool) (w : wide ≡ has_bit0 flags) (guest vcpu : ℕ) (b : List ℕ) (a : Target) (q : a ≡ target_of l s (supported_bits wide) flags wide guest vcpu) (r : Answer) where
+module _ (l : Layout) (s : List ℕ) (flags : ℕ) (wide : Bool) (w : wide ≡ has_bit0 flags) (guest vcpu : ℕ) (b : List ℕ) (a : Result ℕ Fault) (q : a ≡ target_of l s (supported_bits wide) flags wide guest vcpu) where
   abbrev tests : List (Bool × Fault)
   tests = target_tests l s (supported_bits wide) flags wide guest vcpu
 
@@ -174,34 +167,32 @@ module _ (l : Layout) (s : List ℕ) (flags : ℕ) (wide : Bool) (w : wide ≡ h
   get_as =
       ap (λ (t : Bool). decide s b (target_tests l s (supported_bits t) flags t guest vcpu ++ buffer_tests (context_of l s guest (get_use t)) b) (fill_with s (base_of l s t guest vcpu) b)) w
 
-  pub set_turned : (f : Fault) → a ≡ TargetRefused f → r ≡ refusal f → ◌≡◌ {A = Outcome} (record { answer = r; store = s; buffer = [] }) (set_elements l s flags guest vcpu b)
+  pub set_turned : (f : Fault) → a ≡ Err f → ◌≡◌ {A = Outcome} (record { answer = refusal f; store = s; buffer = [] }) (set_elements l s flags guest vcpu b)
   unfolding decide
-  set_turned f h i =
-      ap (λ (x : Answer). record { answer = x; store = s; buffer = [] }) i
-      ∙ sym (begin_refused (refuse s []) (accept 0 (applied (base_of l s wide guest vcpu) b (count_of b) s)) tests (buffer_tests (context_of l s guest (set_use wide)) b) f (target_judged l s (supported_bits wide) flags wide guest vcpu a q f h))
+  set_turned f h =
+      sym (begin_refused (refuse s []) (accept 0 (applied (base_of l s wide guest vcpu) b (count_of b) s)) tests (buffer_tests (context_of l s guest (set_use wide)) b) f (target_judged l s (supported_bits wide) flags wide guest vcpu a q f h))
       ∙ set_as
 
-  pub set_found : (base : ℕ) (u : List ℕ) (usage : Usage) (k : Context) → a ≡ At base → usage ≡ set_use wide → k ≡ context_of l s guest usage → ◌≡◌ {A = Outcome} (record { answer = r; store = u; buffer = [] }) (set_at s base k b)
+  pub set_found : (r : Answer) (base : ℕ) (u : List ℕ) (usage : Usage) (k : Context) → a ≡ Ok base → usage ≡ set_use wide → k ≡ context_of l s guest usage → ◌≡◌ {A = Outcome} (record { answer = r; store = u; buffer = [] }) (set_at s base k b)
       → ◌≡◌ {A = Outcome} (record { answer = r; store = u; buffer = [] }) (set_elements l s flags guest vcpu b)
   unfolding set_at decide
-  set_found base u usage k h v z i =
+  set_found r base u usage k h v z i =
       let p = target_found l s (supported_bits wide) flags wide guest vcpu a q base h in
       i ∙ ap₂ (λ (x : ℕ) (y : Context). first_of (refuse s []) (buffer_tests y b) (accept 0 (applied x b (count_of b) s))) (sym p.1) (z ∙ ap (context_of l s guest) v)
       ∙ sym (begin_admitted (refuse s []) (accept 0 (applied (base_of l s wide guest vcpu) b (count_of b) s)) tests (buffer_tests (context_of l s guest (set_use wide)) b) p.0) ∙ set_as
 
-  pub get_turned : (f : Fault) → a ≡ TargetRefused f → r ≡ refusal f → ◌≡◌ {A = Outcome} (record { answer = r; store = s; buffer = b }) (get_elements l s flags guest vcpu b)
+  pub get_turned : (f : Fault) → a ≡ Err f → ◌≡◌ {A = Outcome} (record { answer = refusal f; store = s; buffer = b }) (get_elements l s flags guest vcpu b)
   unfolding decide
-  get_turned f h i =
-      ap (λ (x : Answer). record { answer = x; store = s; buffer = b }) i
-      ∙ sym (begin_refused (refuse s b) (fill_with s (base_of l s wide guest vcpu) b) tests (buffer_tests (context_of l s guest (get_use wide)) b) f (target_judged l s (supported_bits wide) flags wide guest vcpu a q f h)) ∙ get_as
+  get_turned f h =
+      sym (begin_refused (refuse s b) (fill_with s (base_of l s wide guest vcpu) b) tests (buffer_tests (context_of l s guest (get_use wide)) b) f (target_judged l s (supported_bits wide) flags wide guest vcpu a q f h)) ∙ get_as
 
-  pub get_past : (base : ℕ) (usage : Usage) (k : Context) → a ≡ At base → usage ≡ get_use wide → k ≡ context_of l s guest usage → get_at s base k b ≡ get_elements l s flags guest vcpu b
+  pub get_past : (base : ℕ) (usage : Usage) (k : Context) → a ≡ Ok base → usage ≡ get_use wide → k ≡ context_of l s guest usage → get_at s base k b ≡ get_elements l s flags guest vcpu b
   unfolding get_at decide
   get_past base usage k h v z =
       let p = target_found l s (supported_bits wide) flags wide guest vcpu a q base h in
       ap₂ (λ (x : ℕ) (y : Context). first_of (refuse s b) (buffer_tests y b) (fill_with s x b)) (sym p.1) (z ∙ ap (context_of l s guest) v)
       ∙ sym (begin_admitted (refuse s b) (fill_with s (base_of l s wide guest vcpu) b) tests (buffer_tests (context_of l s guest (get_use wide)) b) p.0) ∙ get_as
 
-  pub get_found : (base : ℕ) (u : List ℕ) (usage : Usage) (k : Context) → a ≡ At base → usage ≡ get_use wide → k ≡ context_of l s guest usage → ◌≡◌ {A = Outcome} (record { answer = r; store = s; buffer = u }) (get_at s base k b)
+  pub get_found : (r : Answer) (base : ℕ) (u : List ℕ) (usage : Usage) (k : Context) → a ≡ Ok base → usage ≡ get_use wide → k ≡ context_of l s guest usage → ◌≡◌ {A = Outcome} (record { answer = r; store = s; buffer = u }) (get_at s base k b)
       → ◌≡◌ {A = Outcome} (record { answer = r; store = s; buffer = u }) (get_elements l s flags guest vcpu b)
-  get_found base u usage k h v z i = i ∙ get_past base usage k h v z
+  get_found r base u usage k h v z i = i ∙ get_past base usage k h v z

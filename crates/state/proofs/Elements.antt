@@ -7,6 +7,7 @@ use Prim.Native.Nat.{ℕ, ◌+◌, ◌^◌, ◌≤◌, ◌<◌}
 use native.Mathlib.Omega.{arith}
 use lib.ListN.{length}
 use borrow.Author.Tests.{le-ltb, eq-eqb, not-true, not-false}
+use Rattle.std.specs.Prelude.{Result, Ok, Err}
 use Rattle.octets.specs.Bytes.{bytes_at, put}
 use Rattle.octets.proofs.Bytes.{length_bytes_at, put_all}
 use Rattle.answer.specs.declared.Answer.{Answer}
@@ -29,8 +30,7 @@ use Rattle.elements.specs.Table.{kind_of, position, number_of, thread_element}
 use Rattle.rules.specs.Rules.{permits, allows, size_fits, is_setting, good_value}
 use Rattle.elements.proofs.Table.{nop_zero, number_lt, number_element, position_end, thread_stored, size_bound}
 use Rattle.rules.proofs.Rules.{permits_cases, allows_scope, value_get}
-use Rattle.gsb.specs.declared.Walked.TheVariants.{Done, Stopped}
-use Rattle.gsb.specs.Walk.{count_of, bad_length, first_bad}
+use Rattle.gsb.specs.Walk.{count_of, bad_length, first_bad, stopped_at}
 use Rattle.gsb.specs.Message.{message}
 use Rattle.gsb.proofs.Walks.{offset_start}
 use Rattle.gsb.proofs.RoundTrip.{begins_self, wire_one, listed_fits, message_size, message_value, one_bad_length, one_element}
@@ -38,9 +38,6 @@ use Rattle.store.specs.declared.Layout.{Layout}
 use Rattle.store.specs.Layout.{slot_bytes}
 use Rattle.transfer.specs.Transfer.{filled}
 use Rattle.transfer.proofs.Messages.{filled_value_one}
-use Rattle.admission.specs.declared.Admission.TheVariants.{Admitted}
-use Rattle.admission.specs.declared.Target.{Target}
-use Rattle.admission.specs.declared.Target.TheVariants.{Refused as TargetRefused, At}
 use Rattle.admission.specs.Refusals.{Outcome, success, refusal}
 use Rattle.admission.specs.Target.{target_of}
 use Rattle.state.specs.State.{context_of, got_element}
@@ -118,7 +115,7 @@ module _ (id : ℕ) (p : permits (by ThreadGet 0 Full) id (kind_of id) ≡ true)
         ap (λ (y : Usage). permits (by y k.capabilities k.offer) id (kind_of id)) u ∙ permits_by ThreadGet k.capabilities 0 k.offer id
         ∙ ap (λ (t : Bool). t && offers k.offer id) p
 
-    good_one : (k : Context) → k.usage ≡ ThreadGet → offers k.offer id ≡ true → first_bad k buffer ≡ Done
+    good_one : (k : Context) → k.usage ≡ ThreadGet → offers k.offer id ≡ true → first_bad k buffer ≡ Ok tt
     unfolding entry size_fits
     good_one k u o =
         let a : permits k id (kind_of id) ≡ true = by_list k u ∙ o in
@@ -126,7 +123,7 @@ module _ (id : ℕ) (p : permits (by ThreadGet 0 Full) id (kind_of id) ≡ true)
         let c : good_value k id buffer 8 ≡ true = value_get k id buffer 8 (ap is_setting u) in
         one_element k id v fit.0 fit.1 ∙ simp (a, b, c)
 
-    lacked_one : (k : Context) → k.usage ≡ ThreadGet → offers k.offer id ≡ false → first_bad k buffer ≡ Stopped Id (record { index = 0; offset = 4 })
+    lacked_one : (k : Context) → k.usage ≡ ThreadGet → offers k.offer id ≡ false → first_bad k buffer ≡ stopped_at Id (record { index = 0; offset = 4 })
     unfolding entry
     lacked_one k u o = let a : permits k id (kind_of id) ≡ false = by_list k u ∙ o in one_element k id v fit.0 fit.1 ∙ simp a
 
@@ -137,30 +134,30 @@ module _ (id : ℕ) (p : permits (by ThreadGet 0 Full) id (kind_of id) ≡ true)
         one_bad_length id v ∙ le-ltb _ _ few
 
     -- past the target
-    module _ (s : List ℕ) (base : ℕ) (k : Context) (usage : k.usage ≡ ThreadGet) (o : Bool) (f : o ≡ offers k.offer id) (r : Answer) where
+    module _ (s : List ℕ) (base : ℕ) (k : Context) (usage : k.usage ≡ ThreadGet) (o : Bool) (f : o ≡ offers k.offer id) where
       abbrev place : Place
       place = record { index = 0; offset = 4 }
 
       -- an element that the guest's list lacks
-      lacked : not o ≡ true → r ≡ refusal (Element Id place) → ◌≡◌ {A = Outcome} (record { answer = r; store = s; buffer = buffer }) (get_at s base k buffer)
-      lacked n i =
+      lacked : not o ≡ true → ◌≡◌ {A = Outcome} (record { answer = refusal (Element Id place); store = s; buffer = buffer }) (get_at s base k buffer)
+      lacked n =
           let w = lacked_one k usage (sym f ∙ not-true o n) in
-          get_bad k buffer (buffer_good k buffer) refl s base r (Element Id place) (sym (buffer_bad k buffer false (sym short) refl (first_bad k buffer) refl Id place w)) i
+          get_bad k buffer (buffer_good k buffer) refl s base (Element Id place) (sym (buffer_bad k buffer false (sym short) refl (first_bad k buffer) refl (record { bad = Id; place = place }) (Element Id place) w refl))
 
-      pub one_lacked : not o ≡ true → r ≡ refusal (Element Id place) → r ≡ (get_at s base k buffer).answer
-      one_lacked n i = ap (λ (x : Outcome). x.answer) (lacked n i)
+      pub one_lacked : not o ≡ true → refusal (Element Id place) ≡ (get_at s base k buffer).answer
+      one_lacked n = ap (λ (x : Outcome). x.answer) (lacked n)
 
-      pub one_left : not o ≡ true → r ≡ refusal (Element Id place) → v ≡ bytes_at (get_at s base k buffer).buffer 8 (length v)
-      one_left n i = sym value_there ∙ ap (λ (x : Outcome). bytes_at x.buffer 8 (length v)) (lacked n i)
+      pub one_left : not o ≡ true → v ≡ bytes_at (get_at s base k buffer).buffer 8 (length v)
+      one_left n = sym value_there ∙ ap (λ (x : Outcome). bytes_at x.buffer 8 (length v)) (lacked n)
 
-      module _ (n : not o ≡ false) (i : r ≡ success 0) where
-        admitted : buffer_good k buffer ≡ Admitted
+      module _ (n : not o ≡ false) where
+        admitted : buffer_good k buffer ≡ Ok tt
         admitted = sym (buffer_done k buffer false (sym short) refl (first_bad k buffer) refl (good_one k usage (sym f ∙ not-false o n)))
 
-        found : ◌≡◌ {A = Outcome} (record { answer = r; store = s; buffer = filled base s buffer (count_of buffer) }) (get_at s base k buffer)
-        found = get_done k buffer (buffer_good k buffer) refl s base r (filled base s buffer (count_of buffer)) admitted refl i
+        found : ◌≡◌ {A = Outcome} (record { answer = success 0; store = s; buffer = filled base s buffer (count_of buffer) }) (get_at s base k buffer)
+        found = get_done k buffer (buffer_good k buffer) refl s base (filled base s buffer (count_of buffer)) admitted refl
 
-        pub one_found : r ≡ (get_at s base k buffer).answer
+        pub one_found : success 0 ≡ (get_at s base k buffer).answer
         one_found = ap (λ (x : Outcome). x.answer) found
 
         pub one_value : base + slot_bytes ≤ length s → (x : ThreadElement) (m : ℕ) → x ≡ thread_element m → m ≡ number_of id → (u : List ℕ) → u ≡ put v 0 (bytes_at s (base + x.position) x.size)
@@ -175,22 +172,22 @@ module _ (id : ℕ) (p : permits (by ThreadGet 0 Full) id (kind_of id) ≡ true)
             ∙ ap (λ (y : Outcome). bytes_at y.buffer 8 (length v)) found
 
     -- the call
-    module _ (l : Layout) (s : List ℕ) (guest vcpu : ℕ) (a : Target) (q : a ≡ target_of l s (2 ^ 62) 0 false guest vcpu) (r : Answer) where
-      turned : (f : Fault) → a ≡ TargetRefused f → r ≡ refusal f → ◌≡◌ {A = Outcome} (record { answer = r; store = s; buffer = buffer }) (got_element l s guest vcpu id v)
-      turned f h i = get_turned l s 0 false refl guest vcpu buffer a q r f h i ∙ get_plain l s 0 guest vcpu buffer refl
+    module _ (l : Layout) (s : List ℕ) (guest vcpu : ℕ) (a : Result ℕ Fault) (q : a ≡ target_of l s (2 ^ 62) 0 false guest vcpu) where
+      turned : (f : Fault) → a ≡ Err f → ◌≡◌ {A = Outcome} (record { answer = refusal f; store = s; buffer = buffer }) (got_element l s guest vcpu id v)
+      turned f h = get_turned l s 0 false refl guest vcpu buffer a q f h ∙ get_plain l s 0 guest vcpu buffer refl
 
-      pub one_turned : (f : Fault) → a ≡ TargetRefused f → r ≡ refusal f → r ≡ (got_element l s guest vcpu id v).answer
-      one_turned f h i = ap (λ (o : Outcome). o.answer) (turned f h i)
+      pub one_turned : (f : Fault) → a ≡ Err f → refusal f ≡ (got_element l s guest vcpu id v).answer
+      one_turned f h = ap (λ (o : Outcome). o.answer) (turned f h)
 
-      pub one_kept : (f : Fault) → a ≡ TargetRefused f → r ≡ refusal f → v ≡ bytes_at (got_element l s guest vcpu id v).buffer 8 (length v)
-      one_kept f h i = sym value_there ∙ ap (λ (o : Outcome). bytes_at o.buffer 8 (length v)) (turned f h i)
+      pub one_kept : (f : Fault) → a ≡ Err f → v ≡ bytes_at (got_element l s guest vcpu id v).buffer 8 (length v)
+      one_kept f h = sym value_there ∙ ap (λ (o : Outcome). bytes_at o.buffer 8 (length v)) (turned f h)
 
-      module _ (base : ℕ) (h : a ≡ At base) (k : Context) (is : k ≡ context_of l s guest ThreadGet) where
+      module _ (base : ℕ) (h : a ≡ Ok base) (k : Context) (is : k ≡ context_of l s guest ThreadGet) where
         got : get_at s base k buffer ≡ got_element l s guest vcpu id v
-        got = get_past l s 0 false refl guest vcpu buffer a q r base ThreadGet k h refl is ∙ get_plain l s 0 guest vcpu buffer refl
+        got = get_past l s 0 false refl guest vcpu buffer a q base ThreadGet k h refl is ∙ get_plain l s 0 guest vcpu buffer refl
 
-        pub one_got : r ≡ (get_at s base k buffer).answer → r ≡ (got_element l s guest vcpu id v).answer
-        one_got d = d ∙ ap (λ (o : Outcome). o.answer) got
+        pub one_got : (r : Answer) → r ≡ (get_at s base k buffer).answer → r ≡ (got_element l s guest vcpu id v).answer
+        one_got r d = d ∙ ap (λ (o : Outcome). o.answer) got
 
         pub one_bytes : (u : List ℕ) → u ≡ bytes_at (get_at s base k buffer).buffer 8 (length v) → u ≡ bytes_at (got_element l s guest vcpu id v).buffer 8 (length v)
         one_bytes u d = d ∙ ap (λ (o : Outcome). bytes_at o.buffer 8 (length v)) got

@@ -7,6 +7,7 @@ use native.Mathlib.Omega.{arith}
 use lib.Dec.{ltb}
 use lib.ListN.{length}
 use borrow.Author.Tests.{eq-eqb, ne_eqb, ltb-false, not-false}
+use Rattle.std.specs.Prelude.{Result, Ok, Err}
 use Rattle.octets.specs.Bytes.{put}
 use Rattle.answer.specs.declared.Answer.{Answer}
 use Rattle.answer.specs.declared.Fault.{Fault}
@@ -16,8 +17,6 @@ use Rattle.store.specs.declared.Layout.{Layout}
 use Rattle.store.specs.Layout.{slot_at}
 use Rattle.store.specs.Header.{header, is_taken}
 use Rattle.store.specs.Store.{put_taken}
-use Rattle.admission.specs.declared.Slot.{Slot}
-use Rattle.admission.specs.declared.Slot.TheVariants.{Refused as SlotRefused, At as SlotAt}
 use Rattle.admission.specs.Refusals.{Outcome, success, refusal, refuse, decide, hands_over}
 use Rattle.admission.specs.Target.{slot_named, is_away, vcpu_tests, vcpu_slot}
 use Rattle.admission.proofs.Judging.{begin_refused, begin_admitted}
@@ -89,36 +88,36 @@ pub in_range : (least : ℕ) (b : List ℕ) (t : Bool) → t ≡ out_of_range le
 in_range least b t e h = range_least least b (sym e ∙ h)
 
 -- ---- past the slot
-module _ (l : Layout) (s : List ℕ) (j vcpu : ℕ) (b : List ℕ) (t : Bool) (e : t ≡ is_taken l (header l s) j) (r : Answer) where
+module _ (l : Layout) (s : List ℕ) (j vcpu : ℕ) (b : List ℕ) (t : Bool) (e : t ≡ is_taken l (header l s) j) where
   -- taking
-  pub take_away : t ≡ true → r ≡ refusal TakenFault → ◌≡◌ {A = Outcome} (record { answer = r; store = s; buffer = b }) (take_at l s j vcpu b)
+  pub take_away : t ≡ true → ◌≡◌ {A = Outcome} (record { answer = refusal TakenFault; store = s; buffer = b }) (take_at l s j vcpu b)
   unfolding take_at decide
-  take_away h i = let m = sym e ∙ h in ap (λ (x : Answer). record { answer = x; store = s; buffer = b }) i ∙ sym (simp m)
+  take_away h = let m = sym e ∙ h in sym (simp m)
 
   module _ (h : t ≡ false) (y : Bool) (f : y ≡ out_of_range 1844 b) where
-    pub take_length : y ≡ true → r ≡ refusal Length → ◌≡◌ {A = Outcome} (record { answer = r; store = s; buffer = b }) (take_at l s j vcpu b)
+    pub take_length : y ≡ true → ◌≡◌ {A = Outcome} (record { answer = refusal Length; store = s; buffer = b }) (take_at l s j vcpu b)
     unfolding take_at decide
-    take_length k i = let m = sym e ∙ h in let n = sym f ∙ k in ap (λ (x : Answer). record { answer = x; store = s; buffer = b }) i ∙ sym (simp (m, n))
+    take_length k = let m = sym e ∙ h in let n = sym f ∙ k in sym (simp (m, n))
 
-    pub take_done : y ≡ false → r ≡ success 0 → (base : ℕ) → base ≡ slot_at l j → (v c u : List ℕ) → ◌≡◌ {A = Taken} (record { store = v; buffer = c }) (taken vcpu base s b)
-        → u ≡ put_taken l v j 1 → ◌≡◌ {A = Outcome} (record { answer = r; store = u; buffer = c }) (take_at l s j vcpu b)
+    pub take_done : y ≡ false → (base : ℕ) → base ≡ slot_at l j → (v c u : List ℕ) → ◌≡◌ {A = Taken} (record { store = v; buffer = c }) (taken vcpu base s b)
+        → u ≡ put_taken l v j 1 → ◌≡◌ {A = Outcome} (record { answer = success 0; store = u; buffer = c }) (take_at l s j vcpu b)
     unfolding take_at decide
-    take_done k i base p v c u g w =
+    take_done k base p v c u g w =
         let m = sym e ∙ h in
         let n = sym f ∙ k in
         let q = g ∙ ap (λ (x : ℕ). taken vcpu x s b) p in
-        ap₂ (λ (x : Answer) (z : List ℕ). record { answer = x; store = z; buffer = c }) i w
+        ap (λ (z : List ℕ). record { answer = success 0; store = z; buffer = c }) w
         ∙ ap (λ (x : Taken). record { answer = success 0; store = put_taken l x.store j 1; buffer = x.buffer }) q ∙ sym (simp (m, n))
 
   -- giving back
-  pub give_here : not t ≡ true → r ≡ refusal TakenFault → ◌≡◌ {A = Outcome} (record { answer = r; store = s; buffer = [] }) (give_at l s j vcpu b)
+  pub give_here : not t ≡ true → ◌≡◌ {A = Outcome} (record { answer = refusal TakenFault; store = s; buffer = [] }) (give_at l s j vcpu b)
   unfolding give_at decide
-  give_here h i = let m = ap not (sym e) ∙ h in ap (λ (x : Answer). record { answer = x; store = s; buffer = [] }) i ∙ sym (simp m)
+  give_here h = let m = ap not (sym e) ∙ h in sym (simp m)
 
   module _ (h : not t ≡ false) (y : Bool) (f : y ≡ out_of_range 24 b) where
-    pub give_length : y ≡ true → r ≡ refusal Length → ◌≡◌ {A = Outcome} (record { answer = r; store = s; buffer = [] }) (give_at l s j vcpu b)
+    pub give_length : y ≡ true → ◌≡◌ {A = Outcome} (record { answer = refusal Length; store = s; buffer = [] }) (give_at l s j vcpu b)
     unfolding give_at decide
-    give_length k i = let m = ap not (sym e) ∙ h in let n = sym f ∙ k in ap (λ (x : Answer). record { answer = x; store = s; buffer = [] }) i ∙ sym (simp (m, n))
+    give_length k = let m = ap not (sym e) ∙ h in let n = sym f ∙ k in sym (simp (m, n))
 
     module _ (k : y ≡ false) (base : ℕ) (p : base ≡ slot_at l j) (z : Bool) (v : List ℕ) (g : ◌≡◌ {A = Given} (record { accepted = z; store = v }) (given_back vcpu base s b)) where
       -- a form or none, and what is then stored
@@ -134,51 +133,49 @@ module _ (l : Layout) (s : List ℕ) (j vcpu : ℕ) (b : List ℕ) (t : Bool) (e
           all true = refl
           all false = refl
 
-      pub give_form : not z ≡ true → r ≡ refusal Form → ◌≡◌ {A = Outcome} (record { answer = r; store = v; buffer = [] }) (give_at l s j vcpu b)
+      pub give_form : not z ≡ true → ◌≡◌ {A = Outcome} (record { answer = refusal Form; store = v; buffer = [] }) (give_at l s j vcpu b)
       unfolding give_at decide
-      give_form d i =
+      give_form d =
           let m = ap not (sym e) ∙ h in
           let n = sym f ∙ k in
           let o : not (begins vcpu b) ≡ true = ap not (sym told_form.0) ∙ d in
-          ap₂ (λ (x : Answer) (w : List ℕ). record { answer = x; store = w; buffer = [] }) i (told_form.1 ∙ none (begins vcpu b) o) ∙ sym (simp (m, n, o))
+          ap (λ (w : List ℕ). record { answer = refusal Form; store = w; buffer = [] }) (told_form.1 ∙ none (begins vcpu b) o) ∙ sym (simp (m, n, o))
         where
           none : (t : Bool) → not t ≡ true → cond t (put s base (values_of b)) s ≡ s
           none false q = refl
           none true q = absurd (let y : ◌≡◌ {A = ℕ} 1 0 = ap (λ (x : Bool). cond x 0 1) q in omega arith)
 
-      pub give_done : not z ≡ false → r ≡ success 0 → (u : List ℕ) → u ≡ put_taken l v j 0 → ◌≡◌ {A = Outcome} (record { answer = r; store = u; buffer = [] }) (give_at l s j vcpu b)
+      pub give_done : not z ≡ false → (u : List ℕ) → u ≡ put_taken l v j 0 → ◌≡◌ {A = Outcome} (record { answer = success 0; store = u; buffer = [] }) (give_at l s j vcpu b)
       unfolding give_at decide
-      give_done d i u w =
+      give_done d u w =
           let m = ap not (sym e) ∙ h in
           let n = sym f ∙ k in
           let o : begins vcpu b ≡ true = sym told_form.0 ∙ not-false z d in
           let q : v ≡ put s (slot_at l j) (values_of b) = told_form.1 ∙ ap₂ (λ (t : Bool) (x : ℕ). cond t (put s x (values_of b)) s) o p in
-          ap₂ (λ (x : Answer) (c : List ℕ). record { answer = x; store = c; buffer = [] }) i (w ∙ ap (λ (c : List ℕ). put_taken l c j 0) q) ∙ sym (simp (m, n, o))
+          ap (λ (c : List ℕ). record { answer = success 0; store = c; buffer = [] }) (w ∙ ap (λ (c : List ℕ). put_taken l c j 0) q) ∙ sym (simp (m, n, o))
 
 -- ---- by the slot
-module _ (l : Layout) (s : List ℕ) (guest vcpu : ℕ) (b : List ℕ) (a : Slot) (q : a ≡ vcpu_slot l s guest vcpu) (r : Answer) where
-  pub take_turned : (f : Fault) → a ≡ SlotRefused f → r ≡ refusal f → ◌≡◌ {A = Outcome} (record { answer = r; store = s; buffer = b }) (take_vcpu l s guest vcpu b)
+module _ (l : Layout) (s : List ℕ) (guest vcpu : ℕ) (b : List ℕ) (a : Result ℕ Fault) (q : a ≡ vcpu_slot l s guest vcpu) where
+  pub take_turned : (f : Fault) → a ≡ Err f → ◌≡◌ {A = Outcome} (record { answer = refusal f; store = s; buffer = b }) (take_vcpu l s guest vcpu b)
   unfolding take_vcpu decide
-  take_turned f h i =
-      ap (λ (x : Answer). record { answer = x; store = s; buffer = b }) i
-      ∙ sym (begin_refused (refuse s b) (take_from l s (slot_named l s guest vcpu) vcpu b) (vcpu_tests l s guest vcpu) (take_tests (is_away l s guest vcpu) b) f (slot_judged l s guest vcpu a q f h))
+  take_turned f h =
+      sym (begin_refused (refuse s b) (take_from l s (slot_named l s guest vcpu) vcpu b) (vcpu_tests l s guest vcpu) (take_tests (is_away l s guest vcpu) b) f (slot_judged l s guest vcpu a q f h))
 
-  pub take_found : (m : Layout) → m ≡ l → (j : ℕ) (u c : List ℕ) → a ≡ SlotAt j → ◌≡◌ {A = Outcome} (record { answer = r; store = u; buffer = c }) (take_at m s j vcpu b) → ◌≡◌ {A = Outcome} (record { answer = r; store = u; buffer = c }) (take_vcpu l s guest vcpu b)
+  pub take_found : (r : Answer) (m : Layout) → m ≡ l → (j : ℕ) (u c : List ℕ) → a ≡ Ok j → ◌≡◌ {A = Outcome} (record { answer = r; store = u; buffer = c }) (take_at m s j vcpu b) → ◌≡◌ {A = Outcome} (record { answer = r; store = u; buffer = c }) (take_vcpu l s guest vcpu b)
   unfolding take_vcpu take_at decide
-  take_found m e j u c h i =
+  take_found r m e j u c h i =
       let p = slot_named_lem l s guest vcpu a q j h in
       i ∙ ap (λ (x : Layout). take_at x s j vcpu b) e ∙ ap (λ (x : ℕ). decide s b (take_tests (is_taken l (header l s) x) b) (take_from l s x vcpu b)) (sym p.1)
       ∙ sym (begin_admitted (refuse s b) (take_from l s (slot_named l s guest vcpu) vcpu b) (vcpu_tests l s guest vcpu) (take_tests (is_away l s guest vcpu) b) p.0)
 
-  pub give_turned : (f : Fault) → a ≡ SlotRefused f → r ≡ refusal f → ◌≡◌ {A = Outcome} (record { answer = r; store = s; buffer = [] }) (give_vcpu l s guest vcpu b)
+  pub give_turned : (f : Fault) → a ≡ Err f → ◌≡◌ {A = Outcome} (record { answer = refusal f; store = s; buffer = [] }) (give_vcpu l s guest vcpu b)
   unfolding give_vcpu decide
-  give_turned f h i =
-      ap (λ (x : Answer). record { answer = x; store = s; buffer = [] }) i
-      ∙ sym (begin_refused (refuse s []) (give_to l s (slot_named l s guest vcpu) b) (vcpu_tests l s guest vcpu) (give_tests (is_away l s guest vcpu) vcpu b) f (slot_judged l s guest vcpu a q f h))
+  give_turned f h =
+      sym (begin_refused (refuse s []) (give_to l s (slot_named l s guest vcpu) b) (vcpu_tests l s guest vcpu) (give_tests (is_away l s guest vcpu) vcpu b) f (slot_judged l s guest vcpu a q f h))
 
-  pub give_found : (m : Layout) → m ≡ l → (j : ℕ) (u : List ℕ) → a ≡ SlotAt j → ◌≡◌ {A = Outcome} (record { answer = r; store = u; buffer = [] }) (give_at m s j vcpu b) → ◌≡◌ {A = Outcome} (record { answer = r; store = u; buffer = [] }) (give_vcpu l s guest vcpu b)
+  pub give_found : (r : Answer) (m : Layout) → m ≡ l → (j : ℕ) (u : List ℕ) → a ≡ Ok j → ◌≡◌ {A = Outcome} (record { answer = r; store = u; buffer = [] }) (give_at m s j vcpu b) → ◌≡◌ {A = Outcome} (record { answer = r; store = u; buffer = [] }) (give_vcpu l s guest vcpu b)
   unfolding give_vcpu give_at decide
-  give_found m e j u h i =
+  give_found r m e j u h i =
       let p = slot_named_lem l s guest vcpu a q j h in
       i ∙ ap (λ (x : Layout). give_at x s j vcpu b) e ∙ ap (λ (x : ℕ). decide s [] (give_tests (is_taken l (header l s) x) vcpu b) (give_to l s x b)) (sym p.1)
       ∙ sym (begin_admitted (refuse s []) (give_to l s (slot_named l s guest vcpu) b) (vcpu_tests l s guest vcpu) (give_tests (is_away l s guest vcpu) vcpu b) p.0)

@@ -7,8 +7,7 @@ use Rattle.gsb.specs.Walk.{count_of}
 use Rattle.store.specs.declared.Layout.{Layout}
 use Rattle.store.specs.Layout.{guest_bytes, slot_bytes}
 use Rattle.transfer.specs.Transfer.{applied}
-use Rattle.admission.specs.declared.Admission.{Admission}
-use Rattle.admission.specs.Refusals.{Outcome, accept, decide, judgement}
+use Rattle.admission.specs.Refusals.{Admission, Outcome, accept, decide, judgement}
 use Rattle.store.specs.Header.{header, is_taken}
 use Rattle.state.specs.HandOver.{take_tests, take_from, give_tests, give_to}
 use Rattle.state.specs.State.{buffer_tests, fill_with}

@@ -5,30 +5,24 @@
 mod hand_over;
 mod single;
 
-ghost use Rattle.std.specs.Prelude.{◌≡◌, [], ◌+◌, ◌≤◌, length};
-ghost use Rattle.rules.specs.declared.Usage.TheVariants.{ThreadGet};
+ghost use Rattle.std.specs.Prelude.{◌≡◌, cond, [], ◌+◌, ◌≤◌, length};
+ghost use Rattle.answer.specs.Answer.{answer_of};
 ghost use Rattle.store.specs.Layout.{layout_of};
-ghost use Rattle.admission.specs.Refusals.{Outcome, has_bit0};
+ghost use Rattle.admission.specs.Refusals.{Outcome};
 ghost use Rattle.admission.specs.Target.{target_of, Held};
-ghost use Rattle.state.specs.State.{context_of, supported_bits, set_use, set_elements, set_state, get_use, get_elements, get_state};
+ghost use Rattle.state.specs.State.{context_of, supported_bits, set_elements, set_state, get_elements, get_state};
 ghost use Rattle.state.specs.Private.{buffer_good, set_at, get_at, bytes_for};
 
-use admission::{Admission, Target, target_of};
-use answer::{Answer, Fault, refusal, success};
+use admission::{BIT_0, BIT_1, is_wide, target_of};
+use answer::{Answer, Fault};
 use elements::offer_of;
-use gsb::{Walked, bad_length, first_bad};
+use gsb::{bad_length, first_bad};
 pub use hand_over::{give_vcpu, take_vcpu};
 use octets::get32;
 use rules::{Context, Usage};
 pub use single::get_element;
 use store::{capabilities_of, guest_at, layout_of};
 use transfer::{apply, fill};
-
-// Guest-wide.
-const BIT_0: u64 = 0x8000_0000_0000_0000;
-
-// A vCPU is handed over.
-const BIT_1: u64 = 0x4000_0000_0000_0000;
 
 // What judging a buffer of a call on a live guest depends on. 0x0003, the PVR, stands first in a guest's values.
 pub fn context_of(store: &[u8], guest: usize, usage: Usage) -> Context
@@ -45,37 +39,38 @@ pub fn context_of(store: &[u8], guest: usize, usage: Usage) -> Context
 }
 
 // 5, then the elements.
-fn judge_buffer(k: Context, buffer: &[u8]) -> Admission
+fn judge_buffer(k: Context, buffer: &[u8]) -> Result<(), Fault>
     ensures { result ≡ buffer_good k buffer.now }
 {
     if bad_length(buffer) {
-        return Admission::Refused(Fault::Length);
+        return Err(Fault::Length);
     }
-    match first_bad(buffer, k) {
-        Walked::Stopped(bad, place) => Admission::Refused(Fault::Element(bad, place)),
-        Walked::Done => Admission::Admitted,
-    }
-}
-
-// Bit 0: guest-wide.
-fn is_wide(flags: u64) -> bool
-    ensures { result ≡ has_bit0 flags }
-{
-    flags / 0x8000_0000_0000_0000 == 1
+    first_bad(buffer, k)?;
+    Ok(())
 }
 
 // Bit 1 is supported without bit 0 only.
 fn supported_bits(wide: bool) -> u64
     ensures { result ≡ supported_bits wide }
 {
-    if wide {
-        return BIT_0;
-    }
-    BIT_1
+    if wide { BIT_0 } else { BIT_1 }
+}
+
+// The use of a buffer: its elements are the guest's, or a vCPU's.
+fn use_for(wide: bool, of_guest: Usage, of_vcpu: Usage) -> Usage
+    ensures { result ≡ cond wide of_guest of_vcpu }
+{
+    if wide { of_guest } else { of_vcpu }
 }
 
 // Where the elements' values are, with one argument less than `target_of`: none goes over the stack, which the entries have 512 bytes of.
-fn element_target(store: &[u8], flags: u64, wide: bool, guest: u64, vcpu: u64) -> Target
+fn element_target(
+    store: &[u8],
+    flags: u64,
+    wide: bool,
+    guest: u64,
+    vcpu: u64,
+) -> Result<usize, Fault>
     ensures value { result ≡ target_of (layout_of store.now) store.now (supported_bits wide) flags wide guest vcpu }
     ensures held { Held result wide (layout_of store.now) (length store.now) }
 {
@@ -89,39 +84,29 @@ fn element_target(store: &[u8], flags: u64, wide: bool, guest: u64, vcpu: u64) -
     )
 }
 
-fn set_use(wide: bool) -> Usage
-    ensures { result ≡ set_use wide }
+fn set_at(store: &mut [u8], base: usize, k: Context, buffer: &[u8]) -> Result<u64, Fault>
+    requires { base + bytes_for k.usage ≤ length store.old }
+    ensures { ◌≡◌ {A = Outcome} (record { answer = answer_of result; store = store.new; buffer = [] }) (set_at store.old base k buffer.now) }
 {
-    if wide {
-        return Usage::GuestSet;
-    }
-    Usage::ThreadSet
+    judge_buffer(k, buffer)?;
+    apply(store, base, buffer);
+    Ok(0)
 }
 
-fn set_at(store: &mut [u8], base: usize, k: Context, buffer: &[u8]) -> Answer
-    requires { base + bytes_for k.usage ≤ length store.old }
-    ensures { ◌≡◌ {A = Outcome} (record { answer = result; store = store.new; buffer = [] }) (set_at store.old base k buffer.now) }
+fn try_set(store: &mut [u8], flags: u64, guest: u64, vcpu: u64, buffer: &[u8]) -> Result<u64, Fault>
+    ensures { ◌≡◌ {A = Outcome} (record { answer = answer_of result; store = store.new; buffer = [] }) (set_elements (layout_of store.old) store.old flags guest vcpu buffer.now) }
 {
-    match judge_buffer(k, buffer) {
-        Admission::Refused(fault) => return refusal(fault),
-        Admission::Admitted => {}
-    }
-    apply(store, base, buffer);
-    success(0)
+    let wide = is_wide(flags);
+    let base = element_target(store, flags, wide, guest, vcpu)?;
+    let usage = use_for(wide, Usage::GuestSet, Usage::ThreadSet);
+    let k = context_of(store, guest as usize, usage);
+    set_at(store, base, k, buffer)
 }
 
 pub fn set_elements(store: &mut [u8], flags: u64, guest: u64, vcpu: u64, buffer: &[u8]) -> Answer
     ensures { ◌≡◌ {A = Outcome} (record { answer = result; store = store.new; buffer = [] }) (set_elements (layout_of store.old) store.old flags guest vcpu buffer.now) }
 {
-    let wide = is_wide(flags);
-    let target = element_target(store, flags, wide, guest, vcpu);
-    match target {
-        Target::Refused(fault) => refusal(fault),
-        Target::At(base) => {
-            let k = context_of(store, guest as usize, set_use(wide));
-            set_at(store, base, k, buffer)
-        }
-    }
+    Answer::from(try_set(store, flags, guest, vcpu, buffer))
 }
 
 // H_GUEST_SET_STATE.
@@ -134,39 +119,29 @@ pub fn set_state(store: &mut [u8], flags: u64, guest: u64, vcpu: u64, buffer: &[
     set_elements(store, flags, guest, vcpu, buffer)
 }
 
-fn get_use(wide: bool) -> Usage
-    ensures { result ≡ get_use wide }
+fn get_at(store: &[u8], base: usize, k: Context, buffer: &mut [u8]) -> Result<u64, Fault>
+    requires { base + bytes_for k.usage ≤ length store.now }
+    ensures { ◌≡◌ {A = Outcome} (record { answer = answer_of result; store = store.now; buffer = buffer.new }) (get_at store.now base k buffer.old) }
 {
-    if wide {
-        return Usage::GuestGet;
-    }
-    Usage::ThreadGet
+    judge_buffer(k, buffer)?;
+    fill(store, base, buffer);
+    Ok(0)
 }
 
-fn get_at(store: &[u8], base: usize, k: Context, buffer: &mut [u8]) -> Answer
-    requires { base + bytes_for k.usage ≤ length store.now }
-    ensures { ◌≡◌ {A = Outcome} (record { answer = result; store = store.now; buffer = buffer.new }) (get_at store.now base k buffer.old) }
+fn try_get(store: &[u8], flags: u64, guest: u64, vcpu: u64, buffer: &mut [u8]) -> Result<u64, Fault>
+    ensures { ◌≡◌ {A = Outcome} (record { answer = answer_of result; store = store.now; buffer = buffer.new }) (get_elements (layout_of store.now) store.now flags guest vcpu buffer.old) }
 {
-    match judge_buffer(k, buffer) {
-        Admission::Refused(fault) => return refusal(fault),
-        Admission::Admitted => {}
-    }
-    fill(store, base, buffer);
-    success(0)
+    let wide = is_wide(flags);
+    let base = element_target(store, flags, wide, guest, vcpu)?;
+    let usage = use_for(wide, Usage::GuestGet, Usage::ThreadGet);
+    let k = context_of(store, guest as usize, usage);
+    get_at(store, base, k, buffer)
 }
 
 pub fn get_elements(store: &[u8], flags: u64, guest: u64, vcpu: u64, buffer: &mut [u8]) -> Answer
     ensures { ◌≡◌ {A = Outcome} (record { answer = result; store = store.now; buffer = buffer.new }) (get_elements (layout_of store.now) store.now flags guest vcpu buffer.old) }
 {
-    let wide = is_wide(flags);
-    let target = element_target(store, flags, wide, guest, vcpu);
-    match target {
-        Target::Refused(fault) => refusal(fault),
-        Target::At(base) => {
-            let k = context_of(store, guest as usize, get_use(wide));
-            get_at(store, base, k, buffer)
-        }
-    }
+    Answer::from(try_get(store, flags, guest, vcpu, buffer))
 }
 
 // H_GUEST_GET_STATE. It writes the store where a vCPU is taken.

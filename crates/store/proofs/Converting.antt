@@ -1,8 +1,8 @@
 -- The conversion, in the form of the code's needs. Assumes nothing.
-use mathlib.Core.Path.{◌≡◌, refl, sym, ap, ◌∙◌}
-use mathlib.Core.Bool.{Bool, true, cond}
+use mathlib.Core.Path.{◌≡◌, refl, sym, ap, ap₂, ◌∙◌}
+use mathlib.Core.Bool.{true, cond}
 use mathlib.Core.List.{List}
-use Prim.Native.Nat.{ℕ, ◌+◌, ◌-◌, ◌*◌, ◌/◌, ◌^◌, ◌≤◌, ◌<◌}
+use Prim.Native.Nat.{ℕ, suc, ◌+◌, ◌-◌, ◌*◌, ◌/◌, ◌^◌, ◌≤◌, ◌<◌}
 use native.Mathlib.Omega.{arith}
 use native.Mathlib.Numerals.{add-one}
 use lib.ListN.{length}
@@ -39,12 +39,6 @@ pub some_ids : (m : Layout) → Sound m → 0 < 4096 * m.ids
 some_ids m so = omega (arith, so.nameable)
 
 -- ---- a guest and a slot of the target
-pub guest_inside : (l m : Layout) → Within l m → (g : ℕ) → g ≤ l.guests → g ≤ m.guests
-guest_inside l m within g k = omega (arith, within.guests)
-
-pub slot_inside : (l m : Layout) → Within l m → (a : ℕ) → a < l.slots → a < m.slots
-slot_inside l m within a k = omega (arith, within.slots)
-
 -- ---- the source
 pub formed_long : (l : Layout) (s : List ℕ) → well_formed l s ≡ true → length s ≡ l.size
 formed_long l s good = (formed l s good).long
@@ -75,27 +69,21 @@ module _ (l m : Layout) (so : Sound m) (within : Within l m) (t : List ℕ) (lon
   slots_fit = omega (arith, within.slots, so.whole)
 
 -- ---- what is read, written
-pub live_copied : (h t u : List ℕ) (l : Layout) (g : ℕ) (x : Bool) (b : ℕ) → x ≡ live l h g → b ≡ cond x 1 0 → u ≡ put_live t g b → u ≡ put_live t g (cond (live l h g) 1 0)
-live_copied h t u l g x b e q f = f ∙ ap (put_live t g) (q ∙ ap (λ (z : Bool). cond z 1 0) e)
-
-pub mark_copied : (h t u : List ℕ) (l m : Layout) (a : ℕ) (x : Bool) (b : ℕ) → x ≡ is_taken l h a → b ≡ cond x 1 0 → u ≡ put_taken m t a b → u ≡ put_taken m t a (cond (is_taken l h a) 1 0)
-mark_copied h t u l m a x b e q f = f ∙ ap (put_taken m t a) (q ∙ ap (λ (z : Bool). cond z 1 0) e)
-
-pub word_copied : (h t u : List ℕ) (l m : Layout) (a x w : ℕ) → x ≡ word l h a → w ≡ recoded l m x → u ≡ put_word m t a w → u ≡ put_word m t a (recoded l m (word l h a))
-word_copied h t u l m a x w e q f = f ∙ ap (put_word m t a) (q ∙ ap (recoded l m) e)
-
 -- ---- the loops
 module _ (l : Layout) (h t : List ℕ) where
   pub lives_none : t ≡ copied_lives l h 0 t
   unfolding copied_lives
   lives_none = refl
 
-  pub lives_more : (g : ℕ) (u v : List ℕ) → u ≡ copied_lives l h g t → v ≡ put_live u (g + 1) (cond (live l h (g + 1)) 1 0) → v ≡ copied_lives l h (g + 1) t
+  pub lives_more : (g : ℕ) (u v : List ℕ) → 1 ≤ g → u ≡ copied_lives l h (g - 1) t → v ≡ put_live u g (cond (live l h g) 1 0) → v ≡ copied_lives l h (g + 1 - 1) t
   unfolding copied_lives
-  lives_more g u v e f = f ∙ ap (λ (x : List ℕ). put_live x (g + 1) (cond (live l h (g + 1)) 1 0)) e ∙ ap (λ (n : ℕ). copied_lives l h n t) (sym (add-one g))
+  lives_more g u v k e f =
+      let n : g + 1 - 1 ≡ suc (g - 1) = omega arith in
+      let m : g ≡ g - 1 + 1 = omega arith in
+      f ∙ ap₂ (λ (x : List ℕ) (i : ℕ). put_live x i (cond (live l h i) 1 0)) e m ∙ ap (λ (i : ℕ). copied_lives l h i t) (sym n)
 
-  pub lives_all : (g : ℕ) (u : List ℕ) → u ≡ copied_lives l h g t → g ≤ l.guests → l.guests ≤ g → u ≡ copied_lives l h l.guests t
-  lives_all g u e p q = let z : g ≡ l.guests = omega arith in e ∙ ap (λ (n : ℕ). copied_lives l h n t) z
+  pub lives_all : (g : ℕ) (u : List ℕ) → u ≡ copied_lives l h (g - 1) t → g ≤ l.guests + 1 → l.guests + 1 ≤ g → u ≡ copied_lives l h l.guests t
+  lives_all g u e p q = let z : g - 1 ≡ l.guests = omega arith in e ∙ ap (λ (n : ℕ). copied_lives l h n t) z
 
 module _ (l m : Layout) (h t : List ℕ) where
   pub marks_none : t ≡ copied_marks l m h 0 t

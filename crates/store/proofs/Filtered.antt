@@ -9,7 +9,7 @@ use borrow.Author.Tests.{eq-eqb, ne_eqb, le-leb, lt-leb, not-true, not-false}
 use Rattle.store.specs.declared.Layout.{Layout}
 use Rattle.store.specs.Layout.{Sound}
 use Rattle.store.specs.Search.{every}
-use Rattle.store.specs.Header.{word, live, is_used, guest_of, is_taken, lacks, alone, slot_good, words_good}
+use Rattle.store.specs.Header.{word, live, is_used, guest_of, is_taken, alone, slot_good, words_good}
 use Rattle.store.specs.Filter.{met, meet, Noted, Tested}
 use Rattle.store.proofs.Search.{no_bool}
 use Rattle.store.proofs.Loops.{every_end, every_past, every_out}
@@ -18,24 +18,6 @@ use Rattle.store.proofs.Noted.{noted_zero, noted_more, new_alone}
 -- a word is small enough to be hashed
 pub hashable : (l : Layout) (w : ℕ) → Sound l → w < 4096 * l.ids → w < 2 ^ 18
 hashable l w h k = omega (arith, h.few_ids)
-
--- ---- a word against all before it
-module _ (l : Layout) (h : List ℕ) (w a : ℕ) where
-  pub alone_start_lem : alone l h w a ≡ every (lacks l h w) (a - 0) 0
-  unfolding alone
-  alone_start_lem = let e : a ≡ a - 0 = omega arith in ap (λ (n : ℕ). every (lacks l h w) n 0) e
-
-  module _ (f : Bool) (b x : ℕ) (i : f ≡ every (lacks l h w) (a - b) b) where
-    pub alone_hit : b < a → x ≡ word l h b → x ≡ w → false ≡ f
-    unfolding lacks
-    alone_hit k e q = sym (i ∙ every_out (lacks l h w) a b k (ap not (eq-eqb _ _ (sym e ∙ q))))
-
-    pub alone_miss : b < a → x ≡ word l h b → (x ≡ w → ⊥) → f ≡ every (lacks l h w) (a - (b + 1)) (b + 1)
-    unfolding lacks
-    alone_miss k e q = i ∙ every_past (lacks l h w) a b k (ap not (ne_eqb _ _ (λ z. q (e ∙ z))))
-
-  pub alone_end : (f : Bool) (b : ℕ) → f ≡ every (lacks l h w) (a - b) b → a ≤ b → true ≡ f
-  alone_end f b i k = sym (i ∙ every_end (lacks l h w) a b k)
 
 -- ---- all slots
 module _ (l : Layout) (h : List ℕ) where
@@ -76,19 +58,19 @@ module _ (l : Layout) (so : Sound l) (h m : List ℕ) (a w : ℕ) (e : w ≡ wor
         record { good = sym (slot_is ∙ simp (ne_eqb _ _ used, lt-leb _ _ k)); noted = λ t. absurd (no_bool t) }
 
     module _ (u : l.ids ≤ w / 2048) (x : Bool) (g : x ≡ live l h (w / 2048 - l.ids)) where
-      pub filter_dead : not x ≡ true → Tested l h m a false
+      pub filter_dead : x ≡ false → Tested l h m a false
       unfolding is_used guest_of
       filter_dead q =
           let k : l.ids * 2048 ≤ w = omega arith in
-          record { good = sym (slot_is ∙ simp (ne_eqb _ _ used, le-leb _ _ k, sym g ∙ not-true x q)); noted = λ t. absurd (no_bool t) }
+          record { good = sym (slot_is ∙ simp (ne_eqb _ _ used, le-leb _ _ k, sym g ∙ q)); noted = λ t. absurd (no_bool t) }
 
-      slot_alone : not x ≡ false → slot_good l h a ≡ alone l h w a
+      slot_alone : x ≡ true → slot_good l h a ≡ alone l h w a
       unfolding is_used guest_of
       slot_alone q =
           let k : l.ids * 2048 ≤ w = omega arith in
-          slot_is ∙ simp (ne_eqb _ _ used, le-leb _ _ k, sym g ∙ not-false x q)
+          slot_is ∙ simp (ne_eqb _ _ used, le-leb _ _ k, sym g ∙ q)
 
-      module _ (q : not x ≡ false) (y : Bool) (c : y ≡ met m w) (n : List ℕ) (d : n ≡ meet m w) where
+      module _ (q : x ≡ true) (y : Bool) (c : y ≡ met m w) (n : List ℕ) (d : n ≡ meet m w) where
         pub filter_new : not y ≡ true → Tested l h n a true
         filter_new r = record { good = sym (slot_alone q ∙ new_alone l h m a w e f used (sym c ∙ not-true y r)); noted = λ t. noted_more l h m a w e f n d }
 

@@ -17,3 +17,4 @@ pub mod Edited
 pub mod Recoded
 pub mod Converting
 pub mod Fresh
+mod Ranges

@@ -1,6 +1,6 @@
 -- What the code reads from the store's bytes is what the header says. Assumes nothing.
 use mathlib.Core.Path.{◌≡◌, refl, sym, ap, ap₂, ◌∙◌}
-use mathlib.Core.Logic.{◌≢◌}
+use mathlib.Core.Logic.{◌≢◌, ◌⊎◌, inl, inr}
 use mathlib.Core.Bool.{false}
 use mathlib.Core.List.{List}
 use Prim.Native.Nat.{ℕ, ◌+◌, ◌-◌, ◌*◌, ◌/◌, ◌%◌, ◌^◌, ◌≤◌, ◌<◌}
@@ -103,13 +103,10 @@ module _ (l : Layout) (h : Sound l) (s : List ℕ) where
 
   -- ---- live
   module _ (g : ℕ) where
-    pub live_none : g < 1 → false ≡ live l (header l s) g
+    pub live_none : (g < 1) ⊎ ((1 ≤ g) × (l.guests < g)) → false ≡ live l (header l s) g
     unfolding live
-    live_none k = simp (lt-leb _ _ k)
-
-    pub live_over : 1 ≤ g → l.guests < g → false ≡ live l (header l s) g
-    unfolding live
-    live_over k m = simp (le-leb _ _ k, lt-leb _ _ m)
+    live_none (inl k) = simp (lt-leb _ _ k)
+    live_none (inr k) = simp (le-leb _ _ k.0, lt-leb _ _ k.1)
 
     live_bit : (x : ℕ) → 1 ≤ g → g ≤ l.guests → x ≡ get_or s ((63 + g) / 8) 0 → eqb (x / 2 ^ (7 - (63 + g) % 8) % 2) 1 ≡ live l (header l s) g
     unfolding live header
@@ -127,8 +124,8 @@ module _ (l : Layout) (h : Sound l) (s : List ℕ) where
         ∙ ap (λ (n : ℕ). eqb (x / 2 ^ (7 - n) % 2) 1) q
         ∙ live_bit x k m (e ∙ ap (λ (n : ℕ). get_or s n 0) p)
 
-    pub live_byte : g ≤ l.guests → (63 + g) / 8 < l.guests_at
-    live_byte m = omega (arith, h.head, h.words, h.some_zeros)
+    pub live_inside : (n : ℕ) → g ≤ l.guests → n ≡ l.size → 63 + g < 8 * n
+    live_inside n m e = omega (arith, h.head, h.words, h.some_zeros, h.guests_fit, h.whole)
 
   -- ---- a mark
   pub taken_read : (a x : ℕ) → a < l.slots → x ≡ get_or s (l.taken_at + a / 8) 0 → x < 256 → eqb (x * 2 ^ (a % 8) % 2 ^ 64 / 128 % 2) 1 ≡ is_taken l (header l s) a
@@ -143,8 +140,8 @@ module _ (l : Layout) (h : Sound l) (s : List ℕ) where
       ∙ ap (λ (n : ℕ). eqb (x / 2 ^ (7 - n) % 2) 1) q
       ∙ ap (λ (y : ℕ). eqb y 1) (bit_of_lem s j x (e ∙ ap (λ (n : ℕ). get_or s n 0) p) ∙ sym (bit_front s l.guests_at j i))
 
-  pub taken_byte : (a : ℕ) → a < l.slots → l.taken_at + a / 8 < l.guests_at
-  taken_byte a k = omega (arith, h.marks)
+  pub taken_inside : (a n : ℕ) → a < l.slots → n ≡ l.size → 8 * l.taken_at + a < 8 * n
+  taken_inside a n k e = omega (arith, h.marks, h.guests_fit, h.whole)
 
   -- ---- the head
   module _ (c : ℕ) (e : c ≡ be s 0 8) where

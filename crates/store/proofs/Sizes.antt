@@ -8,6 +8,7 @@ use native.Mathlib.Omega.{arith}
 use lib.Dec.{eqb, lit<, lit≤}
 use lib.ListN.{length}
 use borrow.Author.Tests.{eq-eqb, ne_eqb}
+use Rattle.std.specs.Prelude.{Option, unwrap_or, IfSome}
 use Rattle.octets.specs.Bytes.{bytes_at, put, be, zeros}
 use Rattle.octets.specs.Bits.{bit, bits}
 use Rattle.store.specs.declared.Layout.{Layout}
@@ -97,18 +98,18 @@ module _ (l : Layout) (s : List ℕ) (e : l ≡ layout_of s) where
     large_chosen h q = q ∙ ap (λ (m : Layout). well_formed m s) (sym (sized_large h))
 
   -- a search that knows the size: in the layout m, which is the small one or the large one
-  module _ (m : Layout) (w r : ℕ) where
-    pub small_held : l.slots ≤ 16 → m ≡ small → r ≡ slot_holding m (header m s) w → r ≡ slot_holding l (header l s) w
-    small_held h k q = q ∙ ap (λ (x : Layout). slot_holding x (header x s) w) (k ∙ sym (sized_small h))
+  module _ (m : Layout) where
+    pub small_held : (w : ℕ) (r : Option ℕ) → l.slots ≤ 16 → m ≡ small → unwrap_or r m.slots ≡ slot_holding m (header m s) w → unwrap_or r l.slots ≡ slot_holding l (header l s) w
+    small_held w r h k q = subst (λ (x : Layout). unwrap_or r x.slots ≡ slot_holding x (header x s) w) (k ∙ sym (sized_small h)) q
 
-    pub large_held : 16 < l.slots → m ≡ large → r ≡ slot_holding m (header m s) w → r ≡ slot_holding l (header l s) w
-    large_held h k q = q ∙ ap (λ (x : Layout). slot_holding x (header x s) w) (k ∙ sym (sized_large h))
+    pub large_held : (w : ℕ) (r : Option ℕ) → 16 < l.slots → m ≡ large → unwrap_or r m.slots ≡ slot_holding m (header m s) w → unwrap_or r l.slots ≡ slot_holding l (header l s) w
+    large_held w r h k q = subst (λ (x : Layout). unwrap_or r x.slots ≡ slot_holding x (header x s) w) (k ∙ sym (sized_large h)) q
 
-    pub small_few : l.slots ≤ 16 → m ≡ small → r ≤ m.slots → r ≤ l.slots
-    small_few h k q = omega (arith, ap (λ (x : Layout). x.slots) (k ∙ sym (sized_small h)))
+    pub small_few : (r : Option ℕ) → l.slots ≤ 16 → m ≡ small → IfSome r (λ i. i < m.slots) → IfSome r (λ i. i < l.slots)
+    small_few r h k q = subst (λ (x : Layout). IfSome r (λ i. i < x.slots)) (k ∙ sym (sized_small h)) q
 
-    pub large_few : 16 < l.slots → m ≡ large → r ≤ m.slots → r ≤ l.slots
-    large_few h k q = omega (arith, ap (λ (x : Layout). x.slots) (k ∙ sym (sized_large h)))
+    pub large_few : (r : Option ℕ) → 16 < l.slots → m ≡ large → IfSome r (λ i. i < m.slots) → IfSome r (λ i. i < l.slots)
+    large_few r h k q = subst (λ (x : Layout). IfSome r (λ i. i < x.slots)) (k ∙ sym (sized_large h)) q
 
   module _ (m : Layout) where
     pub small_long : l.slots ≤ 16 → m ≡ small → (n : ℕ) → n ≡ l.size → n ≡ m.size

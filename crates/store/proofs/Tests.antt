@@ -1,12 +1,13 @@
 -- The tests of the definitions, in the form of the code's needs. Assumes nothing.
 use mathlib.Core.Path.{◌≡◌, refl, sym, ap, ◌∙◌}
+use mathlib.Core.Logic.{◌⊎◌, inl, inr}
 use mathlib.Core.Bool.{Bool, true, false, not, ◌&&◌, cond}
 use mathlib.Core.List.{List}
 use Prim.Native.Nat.{ℕ, ◌+◌, ◌-◌, ◌*◌, ◌/◌, ◌≤◌, ◌<◌}
 use native.Mathlib.Omega.{arith}
 use lib.Dec.{eqb}
 use lib.ListN.{length}
-use borrow.Author.Tests.{eq-eqb, ne_eqb, eqb-true, le-leb, lt-leb, lt-ltb, le-ltb, leb-true, not-true, not-false}
+use borrow.Author.Tests.{eq-eqb, ne_eqb, eqb-true, le-leb, lt-leb, lt-ltb, le-ltb, leb-true}
 use Rattle.store.specs.declared.Layout.{Layout}
 use Rattle.store.specs.Layout.{Sound}
 use Rattle.store.specs.Header.{header, live, word, word_of, is_used, guest_of, is_taken, head_good, words_good, slot_holding, slot_of, free_slot}
@@ -31,29 +32,26 @@ module _ (l : Layout) (s : List ℕ) (a w : ℕ) (e : w ≡ word l s a) where
   slot_unused n h = let k : w < l.ids * 2048 = omega arith in sym (slot_is ∙ simp (ne_eqb _ _ n, lt-leb _ _ k))
 
   module _ (n : w ≡ 0 → ⊥) (u : l.ids ≤ w / 2048) (x : Bool) (f : x ≡ live l s (w / 2048 - l.ids)) where
-    pub slot_dead : not x ≡ true → false ≡ slot_counted l s a
+    pub slot_dead : x ≡ false → false ≡ slot_counted l s a
     unfolding is_used guest_of
-    slot_dead q = let h : l.ids * 2048 ≤ w = omega arith in sym (slot_is ∙ simp (ne_eqb _ _ n, le-leb _ _ h, sym f ∙ not-true x q))
+    slot_dead q = let h : l.ids * 2048 ≤ w = omega arith in sym (slot_is ∙ simp (ne_eqb _ _ n, le-leb _ _ h, sym f ∙ q))
 
-    pub slot_once : (y : ℕ) → not x ≡ false → y ≡ times_of l s w → eqb y 1 ≡ slot_counted l s a
+    pub slot_once : (y : ℕ) → x ≡ true → y ≡ times_of l s w → eqb y 1 ≡ slot_counted l s a
     unfolding is_used guest_of
     slot_once y q r =
         let h : l.ids * 2048 ≤ w = omega arith in
-        ap (λ (m : ℕ). eqb m 1) r ∙ sym (slot_is ∙ simp (ne_eqb _ _ n, le-leb _ _ h, sym f ∙ not-false x q))
+        ap (λ (m : ℕ). eqb m 1) r ∙ sym (slot_is ∙ simp (ne_eqb _ _ n, le-leb _ _ h, sym f ∙ q))
 
 -- ---- the slot of a vCPU
 module _ (l : Layout) (s : List ℕ) (g v : ℕ) (x : Bool) (e : x ≡ live l s g) where
-  pub of_dead : not x ≡ true → l.slots ≡ slot_of l s g v
+  pub of_none : (x ≡ false) ⊎ ((x ≡ true) × (2048 ≤ v)) → l.slots ≡ slot_of l s g v
   unfolding slot_of
-  of_dead q = simp (sym e ∙ not-true x q)
+  of_none (inl q) = simp (sym e ∙ q)
+  of_none (inr q) = simp (sym e ∙ q.0, le-ltb _ _ q.1)
 
-  pub of_high : not x ≡ false → 2048 ≤ v → l.slots ≡ slot_of l s g v
-  unfolding slot_of
-  of_high q h = simp (sym e ∙ not-false x q, le-ltb _ _ h)
-
-  pub of_found : (r : ℕ) → not x ≡ false → v < 2048 → r ≡ slot_holding l s ((l.ids + g) * 2048 + v) → r ≡ slot_of l s g v
+  pub of_found : (r : ℕ) → x ≡ true → v < 2048 → r ≡ slot_holding l s ((l.ids + g) * 2048 + v) → r ≡ slot_of l s g v
   unfolding slot_of word_of
-  of_found r q h f = f ∙ sym (simp (sym e ∙ not-false x q, lt-ltb _ _ h))
+  of_found r q h f = f ∙ sym (simp (sym e ∙ q, lt-ltb _ _ h))
 
 pub live_parts : (l : Layout) (s : List ℕ) (g : ℕ) → live l s g ≡ true → (1 ≤ g) × (g ≤ l.guests)
 unfolding live
@@ -63,11 +61,11 @@ live_parts l s g h =
     (leb-true _ _ q.0, leb-true _ _ q.1)
 
 -- a live guest's number is small enough for a slot word
-pub live_small : (l : Layout) (s : List ℕ) (g : ℕ) (x : Bool) → Sound l → x ≡ live l s g → not x ≡ false → g < l.ids
-live_small l s g x h e q = let p = live_parts l s g (sym e ∙ not-false x q) in omega (arith, p.1, h.nameable)
+pub live_small : (l : Layout) (s : List ℕ) (g : ℕ) (x : Bool) → Sound l → x ≡ live l s g → x ≡ true → g < l.ids
+live_small l s g x h e q = let p = live_parts l s g (sym e ∙ q) in omega (arith, p.1, h.nameable)
 
 -- and its vCPU's word is one
-pub word_small : (l : Layout) (s : List ℕ) (g v : ℕ) (x : Bool) → Sound l → x ≡ live l s g → not x ≡ false → v < 2048 → (l.ids + g) * 2048 + v < 4096 * l.ids
+pub word_small : (l : Layout) (s : List ℕ) (g v : ℕ) (x : Bool) → Sound l → x ≡ live l s g → x ≡ true → v < 2048 → (l.ids + g) * 2048 + v < 4096 * l.ids
 word_small l s g v x h e q k = omega (arith, live_small l s g x h e q)
 
 pub free_is : (l : Layout) (s : List ℕ) (r : ℕ) → r ≡ slot_holding l s 0 → r ≡ free_slot l s
@@ -89,22 +87,22 @@ module _ (l : Layout) (s : List ℕ) where
     unfolding head_formed
     head_parts h = let p = both _ _ h in (eqb-true _ _ p.0, p.1)
 
-    pub head_size : not x ≡ false → length s ≡ l.size
-    head_size f = (head_parts (sym q ∙ not-false x f)).0
+    pub head_size : x ≡ true → length s ≡ l.size
+    head_size f = (head_parts (sym q ∙ f)).0
 
     -- in the layout m, which is l
     module _ (m : Layout) (e : l ≡ m) where
-      pub wf_head : not x ≡ true → false ≡ well_formed m s
+      pub wf_head : x ≡ false → false ≡ well_formed m s
       unfolding well_formed head_formed
-      wf_head f = sym (ap (λ (k : Layout). well_formed k s) (sym e) ∙ none (eqb (length s) l.size) (head_good l (header l s)) (words_good l (header l s)) (sym q ∙ not-true x f))
+      wf_head f = sym (ap (λ (k : Layout). well_formed k s) (sym e) ∙ none (eqb (length s) l.size) (head_good l (header l s)) (words_good l (header l s)) (sym q ∙ f))
         where
           none : (a b c : Bool) → (a && b) ≡ false → (a && (b && c)) ≡ false
           none true true c h = absurd (no_bool (sym h))
           none true false c h = refl
           none false b c h = refl
 
-      pub wf_words : (y : Bool) → not x ≡ false → y ≡ words_good l (header l s) → y ≡ well_formed m s
+      pub wf_words : (y : Bool) → x ≡ true → y ≡ words_good l (header l s) → y ≡ well_formed m s
       unfolding well_formed
       wf_words y f r =
-          let p = head_parts (sym q ∙ not-false x f) in
+          let p = head_parts (sym q ∙ f) in
           r ∙ sym (ap (λ (k : Layout). well_formed k s) (sym e) ∙ simp (eq-eqb _ _ p.0, p.1))

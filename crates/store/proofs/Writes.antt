@@ -73,19 +73,19 @@ module _ (x k b : ℕ) (hx : x < 256) (hk : k < 8) (hb : b < 2) where
   unfolding ins
   bit_fits = (parts x k b hx hk hb).small
 
-pub live_put : (s : List ℕ) (g b x v : ℕ) → x ≡ get_or s ((63 + g) / 8) 0 → v ≡ ins x (7 - (63 + g) % 8) 1 b → set s ((63 + g) / 8) v ≡ put_live s g b
-unfolding put_live put_bits set_bit
-live_put s g b x v e q =
-    let f : 63 + g + 0 ≡ 63 + g = omega arith in
-    rw f (ap (set s ((63 + g) / 8)) (q ∙ ap (λ (y : ℕ). ins y (7 - (63 + g) % 8) 1 b) e))
+pub bit_put : (s : List ℕ) (i b x v : ℕ) → x ≡ get_or s (i / 8) 0 → v ≡ ins x (7 - i % 8) 1 b → set s (i / 8) v ≡ put_bits s i 1 b
+unfolding put_bits set_bit
+bit_put s i b x v e q =
+    let f : i + 0 ≡ i = omega arith in
+    rw f (ap (set s (i / 8)) (q ∙ ap (λ (y : ℕ). ins y (7 - i % 8) 1 b) e))
 
-pub mark_put : (l : Layout) (s : List ℕ) (a b x v : ℕ) → x ≡ get_or s (l.taken_at + a / 8) 0 → v ≡ ins x (7 - a % 8) 1 b → set s (l.taken_at + a / 8) v ≡ put_taken l s a b
-unfolding put_taken put_bits set_bit
-mark_put l s a b x v e q =
-    let f : 8 * l.taken_at + a + 0 ≡ 8 * l.taken_at + a = omega arith in
-    let i : (8 * l.taken_at + a) / 8 ≡ l.taken_at + a / 8 = omega arith in
-    let k : (8 * l.taken_at + a) % 8 ≡ a % 8 = omega arith in
-    rw (f, i, k) (ap (set s (l.taken_at + a / 8)) (q ∙ ap (λ (y : ℕ). ins y (7 - a % 8) 1 b) e))
+pub live_put : (s t : List ℕ) (g b : ℕ) → t ≡ put_bits s (63 + g) 1 b → t ≡ put_live s g b
+unfolding put_live
+live_put s t g b e = e
+
+pub mark_put : (l : Layout) (s t : List ℕ) (a b : ℕ) → t ≡ put_bits s (8 * l.taken_at + a) 1 b → t ≡ put_taken l s a b
+unfolding put_taken
+mark_put l s t a b e = e
 
 -- a mark cleared, then the word
 pub slot_put : (l : Layout) (s t u : List ℕ) (j w : ℕ) → t ≡ put_taken l s j 0 → u ≡ put_word l t j w → u ≡ put_slot l s j w
@@ -149,12 +149,15 @@ module _ (l : Layout) (s : List ℕ) where
   unfolding no_guests
   guests_none = refl
 
-  pub guests_more : (g : ℕ) (t u : List ℕ) → t ≡ no_guests g s → u ≡ put_live t (g + 1) 0 → u ≡ no_guests (g + 1) s
+  pub guests_more : (g : ℕ) (t u : List ℕ) → 1 ≤ g → t ≡ no_guests (g - 1) s → u ≡ put_live t g 0 → u ≡ no_guests (g + 1 - 1) s
   unfolding no_guests
-  guests_more g t u e f = f ∙ ap (λ (x : List ℕ). put_live x (g + 1) 0) e ∙ ap (λ (n : ℕ). no_guests n s) (sym (add-one g))
+  guests_more g t u k e f =
+      let n : g + 1 - 1 ≡ suc (g - 1) = omega arith in
+      let m : g ≡ g - 1 + 1 = omega arith in
+      f ∙ ap₂ (λ (x : List ℕ) (i : ℕ). put_live x i 0) e m ∙ ap (λ (i : ℕ). no_guests i s) (sym n)
 
-  pub guests_all : (g : ℕ) (t : List ℕ) → t ≡ no_guests g s → g ≤ l.guests → l.guests ≤ g → t ≡ no_guests l.guests s
-  guests_all g t e h k = let q : g ≡ l.guests = omega arith in e ∙ ap (λ (n : ℕ). no_guests n s) q
+  pub guests_all : (g : ℕ) (t : List ℕ) → t ≡ no_guests (g - 1) s → g ≤ l.guests + 1 → l.guests + 1 ≤ g → t ≡ no_guests l.guests s
+  guests_all g t e h k = let q : g - 1 ≡ l.guests = omega arith in e ∙ ap (λ (n : ℕ). no_guests n s) q
 
   pub all_deleted : (t u : List ℕ) → t ≡ no_words l l.slots s → u ≡ no_guests l.guests t → u ≡ without_guests l s
   unfolding without_guests

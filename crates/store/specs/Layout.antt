@@ -1,14 +1,8 @@
 -- 01, "The store", and 02, L6: where its parts lie, at both sizes. Definitions and laws take a layout; only this file and the code's
 -- `small_layout` and `large_layout` name its numbers.
-use Rattle.std.specs.Prelude.{ℕ, ◌+◌, ◌-◌, ◌*◌, ◌^◌, ◌%◌, ◌≤◌, ◌<◌, ◌≡◌, ◌⊎◌, cond, List, eqb, length}
+use Rattle.std.specs.Prelude.{ℕ, ◌+◌, ◌-◌, ◌*◌, cond, List, eqb, length}
 use Rattle.store.specs.declared.Layout.{Layout}
-
--- "52 bytes per guest", "1,820 bytes per slot"
-abbrev pub guest_bytes : ℕ
-guest_bytes = 52
-
-abbrev pub slot_bytes : ℕ
-slot_bytes = 1820
+pub use Rattle.store.specs.Numbers.{Sound, guest_bytes, slot_bytes}
 
 -- "29,578 bytes .. Bytes 0-7 the agreed capabilities; byte 8 the live guests 1 to 8 ..; byte 9 zero; from byte 10 sixteen slot words
 -- of 16 bits: used (1 bit), guest id (4), vCPU id (11). From 42, 52 bytes per guest .. From 458, 1,820 bytes per slot"
@@ -33,25 +27,3 @@ guest_at l g = l.guests_at + guest_bytes * (g - 1)
 
 abbrev pub slot_at : Layout → ℕ → ℕ
 slot_at l j = l.slots_at + slot_bytes * j
-
--- what every law uses of a layout; each layout proves it once, by computing
-pub record Sound (l : Layout) : Type 0 where
-  pub few_slots : l.slots ≤ 64
-  pub some_zeros : 1 ≤ l.zeros
-  pub few_zeros : l.zeros ≤ 8
-  pub whole_bytes : (l.guests + l.zeros) % 8 ≡ 0
-  pub nameable : l.guests < l.ids
-  pub few_ids : l.ids ≤ 64
-  pub digits : 2 ^ l.width ≡ 4096 * l.ids
-  pub head : 64 + l.guests + l.zeros ≤ 8 * l.words_at
-  pub words : 8 * l.words_at + l.width * l.slots ≤ 8 * l.guests_at
-  pub guests_fit : l.guests_at + guest_bytes * l.guests ≤ l.slots_at
-  pub whole : l.slots_at + slot_bytes * l.slots ≡ l.size
-  pub small_size : l.size ≤ 1000000
-  pub marks_head : 64 + l.guests + l.zeros ≤ 8 * l.taken_at
-  pub marks : 8 * l.taken_at + l.slots ≤ 8 * l.guests_at
-  -- the marks lie before the slot words or behind them
-  pub marks_apart : (8 * l.taken_at + l.slots ≤ 8 * l.words_at) ⊎ (8 * l.words_at + l.width * l.slots ≤ 8 * l.taken_at)
-  -- a slot word is read and written within four bytes
-  pub some_width : 1 ≤ l.width
-  pub few_digits : l.width ≤ 25

@@ -1,6 +1,5 @@
 // A store written as one of another layout, which has all its guests and slots: request L6. Every byte of the target is written, whatever it held.
 ghost use Rattle.std.specs.Prelude.{◌≡◌, true, cond, ◌≤◌, ◌<◌, ◌*◌, length};
-ghost use Rattle.store.specs.Layout.{Sound};
 ghost use Rattle.store.specs.Header.{header, live, word, guest_of, is_taken};
 ghost use Rattle.store.specs.Store.{well_formed, put_live, put_word, put_taken};
 ghost use Rattle.store.specs.Conversion.{Within, recoded, copied_lives, copied_marks, copied_words, copied_header, converted};
@@ -10,82 +9,47 @@ use super::fields::{put_word, set_live, set_taken};
 use super::header::{is_live, is_taken, slot_word};
 use octets::{clear, copy};
 
-fn digit(b: bool) -> u64
-    ensures { (result ≡ cond b 1 0) × (result < 2) }
-{
-    if b {
-        return 1;
-    }
-    0
-}
-
 // The guest and the vCPU stay; where the used bit stands goes by the width.
 fn recode(l: Layout, m: Layout, w: usize) -> usize
-    requires { Sound l × Sound m × Within l m × (guest_of l w ≤ l.guests) }
+    requires { Within l m × (guest_of l w ≤ l.guests) }
     ensures { (result ≡ recoded l m w) × (result < 4096 * m.ids) }
 {
     if w < l.ids * 2048 {
-        return 0;
+        0
+    } else {
+        w - l.ids * 2048 + m.ids * 2048
     }
-    w - l.ids * 2048 + m.ids * 2048
-}
-
-fn copy_live(s: &[u8], l: Layout, t: &mut [u8], m: Layout, g: usize)
-    requires { Sound l × Sound m × Within l m × (length s.now ≡ l.size) × (length t.old ≡ m.size) × (1 ≤ g) × (g ≤ l.guests) }
-    ensures { t.new ≡ put_live t.old g (cond (live l (header l s.now) g) 1 0) }
-{
-    set_live(t, m, g, digit(is_live(s, l, g)));
 }
 
 fn copy_lives(s: &[u8], l: Layout, t: &mut [u8], m: Layout)
-    requires { Sound l × Sound m × Within l m × (length s.now ≡ l.size) × (length t.old ≡ m.size) }
+    requires { Within l m × (length s.now ≡ l.size) × (length t.old ≡ m.size) }
     ensures { t.new ≡ copied_lives l (header l s.now) l.guests t.old }
 {
-    let mut g = 0;
-    while g < l.guests {
-        g += 1;
-        copy_live(s, l, t, m, g);
+    for g in 1..l.guests + 1 {
+        set_live(t, m, g, is_live(s, l, g));
     }
-}
-
-fn copy_mark(s: &[u8], l: Layout, t: &mut [u8], m: Layout, a: usize)
-    requires { Sound l × Sound m × Within l m × (length s.now ≡ l.size) × (length t.old ≡ m.size) × (a < l.slots) }
-    ensures { t.new ≡ put_taken m t.old a (cond (is_taken l (header l s.now) a) 1 0) }
-{
-    set_taken(t, m, a, digit(is_taken(s, l, a)));
 }
 
 fn copy_marks(s: &[u8], l: Layout, t: &mut [u8], m: Layout)
-    requires { Sound l × Sound m × Within l m × (length s.now ≡ l.size) × (length t.old ≡ m.size) }
+    requires { Within l m × (length s.now ≡ l.size) × (length t.old ≡ m.size) }
     ensures { t.new ≡ copied_marks l m (header l s.now) l.slots t.old }
 {
-    let mut a = 0;
-    while a < l.slots {
-        copy_mark(s, l, t, m, a);
-        a += 1;
+    for a in 0..l.slots {
+        set_taken(t, m, a, is_taken(s, l, a));
     }
 }
 
-fn copy_word(s: &[u8], l: Layout, t: &mut [u8], m: Layout, a: usize)
-    requires { Sound l × Sound m × Within l m × (well_formed l s.now ≡ true) × (length t.old ≡ m.size) × (a < l.slots) }
-    ensures { t.new ≡ put_word m t.old a (recoded l m (word l (header l s.now) a)) }
-{
-    put_word(t, m, a, recode(l, m, slot_word(s, l, a)));
-}
-
 fn copy_words(s: &[u8], l: Layout, t: &mut [u8], m: Layout)
-    requires { Sound l × Sound m × Within l m × (well_formed l s.now ≡ true) × (length t.old ≡ m.size) }
+    requires { Within l m × (well_formed l s.now ≡ true) × (length t.old ≡ m.size) }
     ensures { t.new ≡ copied_words l m (header l s.now) l.slots t.old }
 {
-    let mut a = 0;
-    while a < l.slots {
-        copy_word(s, l, t, m, a);
-        a += 1;
+    for a in 0..l.slots {
+        put_word(t, m, a, recode(l, m, slot_word(s, l, a)));
     }
 }
 
 fn copy_header(s: &[u8], l: Layout, t: &mut [u8], m: Layout)
-    requires { Sound l × Sound m × Within l m × (well_formed l s.now ≡ true) × (length t.old ≡ m.size) }
+    requires { Within l m × (well_formed l s.now ≡ true) × (length t.old ≡ m.size) }
     ensures { t.new ≡ copied_header l m s.now }
 {
     clear(t, 0, m.size);
@@ -96,7 +60,7 @@ fn copy_header(s: &[u8], l: Layout, t: &mut [u8], m: Layout)
 }
 
 pub fn converted(s: &[u8], l: Layout, t: &mut [u8], m: Layout)
-    requires { Sound l × Sound m × Within l m × (well_formed l s.now ≡ true) × (length t.old ≡ m.size) }
+    requires { Within l m × (well_formed l s.now ≡ true) × (length t.old ≡ m.size) }
     ensures { t.new ≡ converted l m s.now }
 {
     copy_header(s, l, t, m);

@@ -1,7 +1,6 @@
 // That no two slot words are alike, told by a filter: 512 bits, one for each hash of a used word. A word whose bit is clear is new for sure,
 // and only one whose bit is set is compared with those before it. As in `formed`, no array of slot words is kept, nor more than two at once.
 ghost use Rattle.std.specs.Prelude.{◌≡◌, ◌≤◌, ◌<◌, ◌^◌, length};
-ghost use Rattle.store.specs.Layout.{Sound};
 ghost use Rattle.store.specs.Header.{header, alone, words_good};
 ghost use Rattle.store.specs.Filter.{hash_of, met, meet, Noted, Tested};
 
@@ -34,31 +33,21 @@ fn note(seen: &mut [u64; 8], w: usize) -> bool
 
 // Compares the word with all before slot a.
 fn is_alone(s: &[u8], l: Layout, w: usize, a: usize) -> bool
-    requires { Sound l × (length s.now ≡ l.size) × (a ≤ l.slots) }
+    requires { (length s.now ≡ l.size) × (a ≤ l.slots) }
     ensures { result ≡ alone l (header l s.now) w a }
 {
-    let mut b = 0;
-    while b < a {
-        if slot_word(s, l, b) == w {
-            return false;
-        }
-        b += 1;
-    }
-    true
+    (0..a).all(|b| slot_word(s, l, b) != w)
 }
 
 fn slot_filtered(s: &[u8], l: Layout, seen: &mut [u64; 8], a: usize) -> bool
-    requires { Sound l × (length s.now ≡ l.size) × (a < l.slots) × Noted l (header l s.now) seen.old a }
+    requires { (length s.now ≡ l.size) × (a < l.slots) × Noted l (header l s.now) seen.old a }
     ensures { Tested l (header l s.now) seen.new a result }
 {
     let w = slot_word(s, l, a);
     if w == 0 {
         return !is_taken(s, l, a);
     }
-    if w / 2048 < l.ids {
-        return false;
-    }
-    if !is_live(s, l, w / 2048 - l.ids) {
+    if w / 2048 < l.ids || !is_live(s, l, w / 2048 - l.ids) {
         return false;
     }
     if !note(seen, w) {
@@ -68,16 +57,14 @@ fn slot_filtered(s: &[u8], l: Layout, seen: &mut [u64; 8], a: usize) -> bool
 }
 
 pub fn words_filtered(s: &[u8], l: Layout) -> bool
-    requires { Sound l × (length s.now ≡ l.size) }
+    requires { length s.now ≡ l.size }
     ensures { result ≡ words_good l (header l s.now) }
 {
     let mut seen = [0u64; 8];
-    let mut a = 0;
-    while a < l.slots {
+    for a in 0..l.slots {
         if !slot_filtered(s, l, &mut seen, a) {
             return false;
         }
-        a += 1;
     }
     true
 }

@@ -3,7 +3,7 @@
 // compared with. That no two words are alike is told in two ways: in the small store by counting how often each stands, in the large one by a
 // filter (`filter`).
 ghost use Rattle.std.specs.Prelude.{◌≡◌, cond, ◌≤◌, ◌<◌, length};
-ghost use Rattle.store.specs.Layout.{Sound, small, large, layout_of};
+ghost use Rattle.store.specs.Layout.{small, large, layout_of};
 ghost use Rattle.store.specs.Private.{times_of, slot_counted, head_formed};
 ghost use Rattle.store.specs.Header.{header, holds, head_good, words_good};
 ghost use Rattle.store.specs.Store.{well_formed};
@@ -13,43 +13,28 @@ use super::header::{is_live, is_taken, slot_word};
 use super::{Layout, large_layout, small_layout};
 use octets::{get64, wide};
 
-fn held(s: &[u8], l: Layout, b: usize, w: usize) -> u16
-    requires { Sound l × (length s.now ≡ l.size) × (b < l.slots) }
-    ensures { (result ≡ cond (holds l (header l s.now) w b) 1 0) × (result ≤ 1) }
-{
-    if slot_word(s, l, b) == w {
-        return 1;
-    }
-    0
-}
-
 // How many slots hold the word. It does not leave early: the compiler compares all words at once.
 fn times(s: &[u8], l: Layout, w: usize) -> u16
-    requires { Sound l × (length s.now ≡ l.size) }
+    requires { length s.now ≡ l.size }
     ensures { result ≡ times_of l (header l s.now) w }
 {
     let mut n: u16 = 0;
-    let mut b = 0;
-    while b < l.slots {
-        n += held(s, l, b, w);
-        b += 1;
+    for b in 0..l.slots {
+        n += u16::from(slot_word(s, l, b) == w);
     }
     n
 }
 
 // A used word stands once, which is what no two alike comes to. Only an unused slot's mark is looked at.
 fn slot_counted(s: &[u8], l: Layout, a: usize) -> bool
-    requires { Sound l × (length s.now ≡ l.size) × (a < l.slots) }
+    requires { (length s.now ≡ l.size) × (a < l.slots) }
     ensures { result ≡ slot_counted l (header l s.now) a }
 {
     let w = slot_word(s, l, a);
     if w == 0 {
         return !is_taken(s, l, a);
     }
-    if w / 2048 < l.ids {
-        return false;
-    }
-    if !is_live(s, l, w / 2048 - l.ids) {
+    if w / 2048 < l.ids || !is_live(s, l, w / 2048 - l.ids) {
         return false;
     }
     times(s, l, w) == 1
@@ -57,21 +42,14 @@ fn slot_counted(s: &[u8], l: Layout, a: usize) -> bool
 
 // 02, L3: the test of the slot words keeps no array of them in a local, a parameter or a result, nor more than two at once.
 fn words_counted(s: &[u8], l: Layout) -> bool
-    requires { Sound l × (length s.now ≡ l.size) }
+    requires { length s.now ≡ l.size }
     ensures { result ≡ words_good l (header l s.now) }
 {
-    let mut a = 0;
-    while a < l.slots {
-        if !slot_counted(s, l, a) {
-            return false;
-        }
-        a += 1;
-    }
-    true
+    (0..l.slots).all(|a| slot_counted(s, l, a))
 }
 
 fn head_good(s: &[u8], l: Layout) -> bool
-    requires { Sound l × (length s.now ≡ l.size) }
+    requires { length s.now ≡ l.size }
     ensures { result ≡ head_good l (header l s.now) }
 {
     if get64(s, 0) & !0x6000_0000_0000_0000 != 0 {
@@ -82,42 +60,21 @@ fn head_good(s: &[u8], l: Layout) -> bool
 }
 
 fn head_formed(s: &[u8], l: Layout) -> bool
-    requires { Sound l }
     ensures { result ≡ head_formed l s.now }
 {
-    if s.len() != l.size {
-        return false;
-    }
-    head_good(s, l)
+    s.len() == l.size && head_good(s, l)
 }
 
-// One function a size, in which its numbers are known.
-fn small_formed(s: &[u8]) -> bool
-    ensures { result ≡ well_formed small s.now }
-{
-    let l = small_layout();
-    if !head_formed(s, l) {
-        return false;
-    }
-    words_counted(s, l)
-}
-
-fn large_formed(s: &[u8]) -> bool
-    ensures { result ≡ well_formed large s.now }
-{
-    let l = large_layout();
-    if !head_formed(s, l) {
-        return false;
-    }
-    words_filtered(s, l)
-}
-
+// In each arm the numbers of its size are known.
 pub fn well_formed(s: &[u8], l: Layout) -> bool
     requires { l ≡ layout_of s.now }
     ensures { result ≡ well_formed l s.now }
 {
     if l.slots <= 16 {
-        return small_formed(s);
+        let l = small_layout();
+        head_formed(s, l) && words_counted(s, l)
+    } else {
+        let l = large_layout();
+        head_formed(s, l) && words_filtered(s, l)
     }
-    large_formed(s)
 }

@@ -12,7 +12,7 @@ mod slots;
 mod update;
 
 ghost use Rattle.std.specs.Prelude.{◌≡◌, ◌+◌, ◌≤◌, ◌<◌, ◌*◌};
-ghost use Rattle.store.specs.Layout.{Sound, small, large, layout_of, guest_at, slot_at, guest_bytes, slot_bytes};
+ghost use Rattle.store.specs.Layout.{small, large, layout_of, guest_at, slot_at, guest_bytes, slot_bytes};
 
 pub use conversion::converted;
 pub use fields::{put_capabilities, set_taken};
@@ -20,6 +20,7 @@ pub use formed::well_formed;
 pub use header::{capabilities_of, is_live, is_taken, slot_word};
 pub use removal::{without_guest, without_guests};
 pub use slots::{any_live, free_guest, free_slot, slot_of};
+use std::marker::Model;
 pub use update::{with_guest, with_vcpu};
 
 // Numbers of guests and slots, and where slot words, taken marks, guests' values and slots' values start. `zeros` is how many zero bits
@@ -36,6 +37,19 @@ pub struct Layout {
     pub guests_at: usize,
     pub slots_at: usize,
     pub size: usize,
+}
+
+// A clause sees the ten numbers, which are sound in every layout.
+impl Model for Layout {
+    ghost use Rattle.store.specs.Numbers.{Numbers, Sound};
+
+    ghost Value = { Numbers };
+
+    ghost view = { λ a. record { guests = a.guests; zeros = a.zeros; slots = a.slots; ids = a.ids; width = a.width; words_at = a.words_at; taken_at = a.taken_at; guests_at = a.guests_at; slots_at = a.slots_at; size = a.size } };
+
+    ghost invariant = { λ a. Sound (record { guests = a.guests; zeros = a.zeros; slots = a.slots; ids = a.ids; width = a.width; words_at = a.words_at; taken_at = a.taken_at; guests_at = a.guests_at; slots_at = a.slots_at; size = a.size }) };
+
+    ghost inverse = { λ l. record { guests = l.guests; zeros = l.zeros; slots = l.slots; ids = l.ids; width = l.width; words_at = l.words_at; taken_at = l.taken_at; guests_at = l.guests_at; slots_at = l.slots_at; size = l.size } };
 }
 
 // 01's store with the taken marks of request L1: 29,580 bytes.
@@ -85,14 +99,14 @@ pub fn layout_of(s: &[u8]) -> Layout
 }
 
 pub fn guest_at(l: Layout, g: usize) -> usize
-    requires { Sound l × (1 ≤ g) × (g ≤ l.guests) }
+    requires { (1 ≤ g) × (g ≤ l.guests) }
     ensures { (result ≡ guest_at l g) × (l.guests_at ≤ result) × (result + guest_bytes ≤ l.slots_at) }
 {
     l.guests_at + 52 * (g - 1)
 }
 
 pub fn slot_at(l: Layout, j: usize) -> usize
-    requires { Sound l × (j < l.slots) }
+    requires { j < l.slots }
     ensures { (result ≡ slot_at l j) × (l.slots_at ≤ result) × (result + slot_bytes ≤ l.size) }
 {
     l.slots_at + 1820 * j

@@ -10,17 +10,16 @@ use lib.Dec.{eqb}
 use lib.ListN.{length}
 use Rattle.octets.proofs.Bytes.{length_bytes_at}
 use Rattle.answer.specs.declared.Answer.{Answer}
+use Rattle.answer.specs.declared.Bad.{Bad}
 use Rattle.answer.specs.declared.Bad.TheVariants.{Id, Size, Value}
 use Rattle.answer.specs.declared.Call.{Call as Name}
 use Rattle.answer.specs.declared.Fault.{Fault}
-use Rattle.answer.specs.declared.Fault.TheVariants.{Store}
+use Rattle.answer.specs.declared.Fault.TheVariants.{Store, Element}
 use Rattle.answer.specs.Answer.{told}
 use Rattle.answer.specs.Refusals.{first_of}
 use Rattle.rules.specs.declared.Context.{Context}
 use Rattle.rules.specs.declared.Usage.TheVariants.{RunInput, Effect as InEffect}
-use Rattle.gsb.specs.declared.Walked.{Walked}
-use Rattle.gsb.specs.declared.Walked.TheVariants.{Done, Stopped}
-use Rattle.gsb.specs.Walk.{first_bad, is_stopped, fault_of}
+use Rattle.gsb.specs.Walk.{first_bad, is_stopped, fault_of, Walked}
 use Rattle.store.specs.declared.Layout.{Layout}
 use Rattle.store.specs.Layout.{Sound}
 use Rattle.store.specs.Header.{header, head_good, words_good}
@@ -38,6 +37,7 @@ use Rattle.guests.specs.Guests.{create_vcpu, delete_guest}
 use Rattle.tally.specs.Tally.{all_set}
 use Rattle.tally.specs.Private.{set_in}
 use Rattle.tally.proofs.Counted.{all_set_lem}
+use Rattle.std.proofs.Common.{Ok, Err}
 
 -- ---- lists of tests
 passed_left : (xs ys : List (Bool × Fault)) → Passed (xs ++ ys) → Passed xs
@@ -74,14 +74,17 @@ module _ (c : Name) where
       go false n q ih = (refl, ih q)
 
   real_element : (w : Walked) → is_stopped w ≡ true → (told c (fault_of w) 0).r3 ≡ 0 → ⊥
-  real_element Done e q = no_one e
-  real_element (Stopped Id place) e q = omega (arith, q)
-  real_element (Stopped Size place) e q = omega (arith, q)
-  real_element (Stopped Value place) e q = omega (arith, q)
+  real_element (Ok _) e q = no_one e
+  real_element (Err stop) e q = go stop.bad q
+    where
+      go : (bad : Bad) → (told c (Element bad stop.place) 0).r3 ≡ 0 → ⊥
+      go Id h = omega (arith, h)
+      go Size h = omega (arith, h)
+      go Value h = omega (arith, h)
 
   real_effect : (w : Walked) → is_stopped w ≡ true → (told c (effect_fault w) 0).r3 ≡ 0 → ⊥
-  real_effect Done e q = no_one e
-  real_effect (Stopped bad place) e q = omega (arith, q)
+  real_effect (Ok _) e q = no_one e
+  real_effect (Err stop) e q = omega (arith, q)
 
   real_target : (l : Layout) (s : List ℕ) (supported flags : ℕ) (wide : Bool) (guest vcpu : ℕ) → Real (target_tests l s supported flags wide guest vcpu)
   real_target l s supported flags wide guest vcpu =

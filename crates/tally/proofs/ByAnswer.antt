@@ -1,7 +1,7 @@
 -- What a call makes of a record, test by test, in the form of the needs. Assumes nothing.
 use mathlib.Core.Path.{◌≡◌, sym, ap, ap₂, ◌∙◌}
-use mathlib.Core.Bool.{Bool, ◌&&◌, cond}
-use Prim.Native.Nat.{ℕ, ◌+◌, ◌-◌, ◌/◌, ◌%◌, ◌^◌, ◌<◌, ◌≤◌}
+use mathlib.Core.Bool.{Bool, ◌&&◌, cond, true, false}
+use Prim.Native.Nat.{ℕ, ◌+◌, ◌-◌, ◌%◌, ◌^◌, ◌<◌, ◌≤◌}
 use native.Mathlib.Omega.{arith}
 use borrow.Author.Tests.{le-leb, lt-leb, eq-eqb, ne_eqb}
 use lib.Dec.{leb, eqb}
@@ -10,6 +10,7 @@ use Rattle.answer.specs.declared.Call.{Call as Name}
 use Rattle.answer.specs.declared.Registers.{Registers}
 use Rattle.answer.specs.Answer.{told}
 use Rattle.l0.specs.Numbered.{kind_name}
+use Rattle.admission.specs.Refusals.{has_bit0}
 use Rattle.tally.specs.declared.Summary.{Summary}
 use Rattle.tally.specs.declared.Change.{Change}
 use Rattle.tally.specs.declared.Change.TheVariants.{Nothing, Renewed, Set, Ran, Refused}
@@ -69,19 +70,19 @@ module _ (r3 : ℕ) where
   success_not c d n = sym (ap (λ (b : Bool). cond b c d) (ne_eqb _ _ n))
 
   module _ (flags : ℕ) where
-    pub get_wide : flags / 2 ^ 63 ≡ 1 → Nothing ≡ get_change flags r3
-    get_wide e = sym (ap (λ (b : Bool). cond b Nothing (refused_by r3)) (eq-eqb _ _ e))
+    pub get_wide : (w : Bool) → w ≡ has_bit0 flags → w ≡ true → Nothing ≡ get_change flags r3
+    get_wide w p e = sym (ap (λ (b : Bool). cond b Nothing (refused_by r3)) (sym p ∙ e))
 
-    pub get_thread_lem : (r : Change) → (flags / 2 ^ 63 ≡ 1 → ⊥) → r ≡ refused_by r3 → r ≡ get_change flags r3
-    get_thread_lem r n q = q ∙ sym (ap (λ (b : Bool). cond b Nothing (refused_by r3)) (ne_eqb _ _ n))
+    pub get_thread_lem : (r : Change) (w : Bool) → w ≡ has_bit0 flags → w ≡ false → r ≡ refused_by r3 → r ≡ get_change flags r3
+    get_thread_lem r w p n q = q ∙ sym (ap (λ (b : Bool). cond b Nothing (refused_by r3)) (sym p ∙ n))
 
     module _ (m : ℕ) where
-      pub set_wide : flags / 2 ^ 63 ≡ 1 → Nothing ≡ set_change flags r3 m
-      set_wide e = sym (ap (λ (b : Bool). cond b Nothing (on_success r3 (cond (eqb flags (2 ^ 62)) Nothing (Set m)) (refused_by r3))) (eq-eqb _ _ e))
+      pub set_wide : (w : Bool) → w ≡ has_bit0 flags → w ≡ true → Nothing ≡ set_change flags r3 m
+      set_wide w p e = sym (ap (λ (b : Bool). cond b Nothing (on_success r3 (cond (eqb flags (2 ^ 62)) Nothing (Set m)) (refused_by r3))) (sym p ∙ e))
 
-      module _ (n : flags / 2 ^ 63 ≡ 1 → ⊥) where
+      module _ (w : Bool) (p : w ≡ has_bit0 flags) (n : w ≡ false) where
         past : on_success r3 (cond (eqb flags (2 ^ 62)) Nothing (Set m)) (refused_by r3) ≡ set_change flags r3 m
-        past = sym (ap (λ (b : Bool). cond b Nothing (on_success r3 (cond (eqb flags (2 ^ 62)) Nothing (Set m)) (refused_by r3))) (ne_eqb _ _ n))
+        past = sym (ap (λ (b : Bool). cond b Nothing (on_success r3 (cond (eqb flags (2 ^ 62)) Nothing (Set m)) (refused_by r3))) (sym p ∙ n))
 
         pub set_refused : (r : Change) → (r3 ≡ 0 → ⊥) → r ≡ refused_by r3 → r ≡ set_change flags r3 m
         set_refused r z q = q ∙ success_not _ _ z ∙ past

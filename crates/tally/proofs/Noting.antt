@@ -1,14 +1,13 @@
 -- The records that a mask names are those that the definition changes. Assumes nothing.
 use mathlib.Core.Path.{◌≡◌, refl, sym, ap, ap₂, ◌∙◌}
-use mathlib.Core.Bool.{Bool, true, false, ◌&&◌, cond}
+use mathlib.Core.Bool.{Bool, true, false, cond}
 use mathlib.Core.List.{List, [], ◌∷◌}
 use Prim.Native.Nat.{ℕ, zero, suc, ◌+◌, ◌*◌, ◌/◌, ◌%◌, ◌<◌, ◌≤◌}
 use native.Mathlib.Nat.{le_of_suc-le-suc, not-suc-le-zero}
 use native.Mathlib.Omega.{arith}
-use borrow.Author.Tests.{eq-eqb, ne_eqb, lt-ltb, le-ltb, ltb-true, ltb-false}
-use lib.Dec.{eqb, ltb}
+use borrow.Author.Tests.{eq-eqb, ne_eqb}
+use lib.Dec.{eqb}
 use lib.ListN.{length, get_or, set}
-use Rattle.store.proofs.Search.{both}
 use Rattle.tally.specs.declared.Summary.{Summary}
 use Rattle.tally.specs.declared.Change.{Change}
 use Rattle.tally.specs.declared.Change.TheVariants.{Nothing}
@@ -35,16 +34,6 @@ unfolding noted_at
 at_nothing zero left ts = in_nothing left ts
 at_nothing (suc first) left [] = refl
 at_nothing (suc first) left (t ∷ ts) = ap (λ (xs : List Summary). t ∷ xs) (at_nothing first left ts)
-
--- ---- the loop's test, by its two parts; and that it is met
-pub more_left : (i n left : ℕ) → i < n → ltb 0 left ≡ (ltb i n && ltb 0 left)
-more_left i n left h = sym (ap (λ (b : Bool). b && ltb 0 left) (lt-ltb i n h))
-
-pub none_left : (i n left : ℕ) → n ≤ i → false ≡ (ltb i n && ltb 0 left)
-none_left i n left h = sym (ap (λ (b : Bool). b && ltb 0 left) (le-ltb i n h))
-
-pub in_turn : (i n left : ℕ) → (ltb i n && ltb 0 left) ≡ true → i < n
-in_turn i n left e = ltb-true _ _ (both (ltb i n) (ltb 0 left) e).0
 
 module _ (c : Change) where
   -- ---- one slot
@@ -82,29 +71,18 @@ module _ (c : Change) where
   at_turn zero left (t ∷ ts) h = refl
   at_turn (suc i) left (t ∷ ts) h = ap (λ (xs : List Summary). t ∷ xs) (at_turn i left ts (le_of_suc-le-suc h))
 
-  at_past : (i left : ℕ) (ts : List Summary) → length ts ≤ i → noted_at i left c ts ≡ ts
+  pub at_past : (i left : ℕ) (ts : List Summary) → length ts ≤ i → noted_at i left c ts ≡ ts
   unfolding noted_at noted_in
   at_past zero left [] h = refl
   at_past zero left (t ∷ ts) h = absurd (not-suc-le-zero h)
   at_past (suc i) left [] h = refl
   at_past (suc i) left (t ∷ ts) h = ap (λ (xs : List Summary). t ∷ xs) (at_past i left ts (le_of_suc-le-suc h))
 
-  at_none : (i : ℕ) (ts : List Summary) → noted_at i 0 c ts ≡ ts
+  pub at_none : (i : ℕ) (ts : List Summary) → noted_at i 0 c ts ≡ ts
   unfolding noted_at
   at_none zero ts = in_zero ts
   at_none (suc i) [] = refl
   at_none (suc i) (t ∷ ts) = ap (λ (xs : List Summary). t ∷ xs) (at_none i ts)
-
-  -- the loop's test fails: there is no such record, or no slot is left
-  pub at_end : (i left : ℕ) (ts : List Summary) → (ltb i (length ts) && ltb 0 left) ≡ false → noted_at i left c ts ≡ ts
-  at_end i left ts e = go (ltb i (length ts)) refl e
-    where
-      go : (b : Bool) → ltb i (length ts) ≡ b → (b && ltb 0 left) ≡ false → noted_at i left c ts ≡ ts
-      go false p q = at_past i left ts (ltb-false _ _ p)
-      go true p q =
-          let h : left ≤ 0 = ltb-false 0 left q in
-          let z : left ≡ 0 = omega (arith, h) in
-          ap (λ (m : ℕ). noted_at i m c ts) z ∙ at_none i ts
 
   -- ---- a mask
   low_bit : (v : Bool) (m : ℕ) → eqb ((cond v 1 0 + 2 * m) % 2) 1 ≡ v

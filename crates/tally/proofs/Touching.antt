@@ -5,14 +5,20 @@ use mathlib.Core.List.{List}
 use Prim.Native.Nat.{ℕ, zero, suc, ◌+◌, ◌-◌, ◌*◌, ◌/◌, ◌^◌, ◌<◌, ◌≤◌}
 use native.Mathlib.Nat.{pow-le-pow_right, pow-suc}
 use native.Mathlib.Omega.{arith}
-use borrow.Author.Tests.{eq-eqb, ne_eqb}
 use lib.Dec.{eqb}
+use mir.Val.{bool_byte}
+use Rattle.std.specs.Prelude.{Option, Some}
 use Rattle.octets.specs.Bytes.{be}
+use Rattle.l0.specs.declared.numbered.Kind.{Kind}
+use Rattle.l0.specs.declared.numbered.Kind.TheVariants.{RunVcpu}
+use Rattle.l0.specs.Kinds.{kind_of}
+use Rattle.l0.proofs.ByNumber.{number_is}
 use Rattle.elements.specs.Table.{position, below, table}
 use Rattle.store.specs.declared.Layout.{Layout}
 use Rattle.store.specs.Layout.{slot_at, Sound}
 use Rattle.store.specs.Header.{header, word, guest_of, lacks}
 use Rattle.run.specs.Run.{input_size}
+use Rattle.admission.specs.Refusals.{has_bit0}
 use Rattle.tally.specs.Tally.{dropped}
 use Rattle.tally.specs.Private.{mask_of, HeldBytes}
 
@@ -27,29 +33,10 @@ guest_some l w = refl
 
 -- ---- what a delete drops
 module _ (l : Layout) (s : List ℕ) (flags guest a w : ℕ) (p : w ≡ word l (header l s) a) where
-  abbrev bit_of : Bool → Bool → Bool → ℕ
-  bit_of wide unused same = cond (cond wide (not unused) same) 1 0
-
-  abbrev Drops : ℕ → Type 0
-  Drops n = n ≡ cond (dropped l s flags guest a) 1 0
-
-  abbrev same : Bool
-  same = eqb (guest_of l (word l (header l s) a)) guest
-
-  pub drops_unused : flags / 2 ^ 63 ≡ 1 → w ≡ 0 → Drops 0
+  pub drops_used : (x : Bool) → x ≡ has_bit0 flags → x ≡ true → not (eqb w 0) ≡ dropped l s flags guest a
   unfolding lacks
-  drops_unused e z = sym (ap₂ (λ (x y : Bool). bit_of x y same) (eq-eqb _ _ e) (eq-eqb _ _ (sym p ∙ z)))
-
-  pub drops_used : flags / 2 ^ 63 ≡ 1 → (w ≡ 0 → ⊥) → Drops 1
-  unfolding lacks
-  drops_used e n = sym (ap₂ (λ (x y : Bool). bit_of x y same) (eq-eqb _ _ e) (ne_eqb _ _ (λ q. n (p ∙ q))))
-
-  module _ (g : ℕ) (q : g ≡ guest_of l w) (n : flags / 2 ^ 63 ≡ 1 → ⊥) where
-    pub drops_own : g ≡ guest → Drops 1
-    drops_own e = sym (ap₂ (λ (x y : Bool). cond (cond x (lacks l (header l s) 0 a) y) 1 0) (ne_eqb _ _ n) (eq-eqb _ _ (ap (guest_of l) (sym p) ∙ sym q ∙ e)))
-
-    pub drops_other : (g ≡ guest → ⊥) → Drops 0
-    drops_other m = sym (ap₂ (λ (x y : Bool). cond (cond x (lacks l (header l s) 0 a) y) 1 0) (ne_eqb _ _ n) (ne_eqb _ _ (λ r. m (q ∙ ap (guest_of l) p ∙ r))))
+  drops_used x q t =
+      sym (ap₂ (λ (y : Bool) (n : ℕ). cond y (not (eqb n 0)) (eqb (guest_of l (word l (header l s) a)) guest)) (sym q ∙ t) (sym p))
 
 -- ---- a mask, made from the last slot down
 bit_le : (b : Bool) → cond b 1 0 ≤ 1
@@ -105,7 +92,11 @@ input_at : (s : List ℕ) (base : ℕ) → input_size s base ≡ be s (base + 8)
 unfolding position below table
 input_at s base = let e : base + 0 + 8 ≡ base + 8 = omega arith in ap (λ (n : ℕ). be s n 8) e
 
-module _ (l : Layout) (s : List ℕ) (kind a len base size : ℕ) (k : (kind ≡ 7 → ⊥) → ⊥) (b : base ≡ slot_at l a) (e : size ≡ be s (base + 8) 8) where
+module _ (l : Layout) (s : List ℕ) (kind a len base size : ℕ) (o : Option Kind) (found : o ≡ kind_of kind) (y : Kind) (h : o ≡ Some y) (r : y ≡ RunVcpu)
+    (b : base ≡ slot_at l a) (e : size ≡ be s (base + 8) 8) where
+  seven : kind ≡ 7
+  seven = number_is kind o found y h RunVcpu r
+
   registered_is : size ≡ input_size s (slot_at l a)
   registered_is = e ∙ sym (input_at s base) ∙ ap (input_size s) b
 
@@ -113,4 +104,9 @@ module _ (l : Layout) (s : List ℕ) (kind a len base size : ℕ) (k : (kind ≡
   held_cut h = record { all = λ n. refl; registered = λ x y z w. absurd (omega (arith, registered_is, h, w)) }
 
   pub held_size : HeldBytes l s kind a len size
-  held_size = record { all = λ n. absurd (k n); registered = λ x y z w. registered_is }
+  held_size = record { all = λ n. absurd (n seven); registered = λ x y z w. registered_is }
+
+-- a truth value as a number
+pub bit_small : (t : Bool) (n : ℕ) → n ≡ bool_byte t → n ≤ 1
+bit_small true n e = omega (arith, e)
+bit_small false n e = omega (arith, e)

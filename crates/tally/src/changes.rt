@@ -6,10 +6,8 @@ ghost use Rattle.tally.specs.Private.{set_in, get_change, set_change, run_change
 
 use super::Change;
 use super::counting::elements_set;
-
-const BIT_0: u64 = 0x8000_0000_0000_0000;
-
-const BIT_1: u64 = 0x4000_0000_0000_0000;
+use admission::{BIT_1, is_wide};
+use l0::Kind;
 
 fn refused_by(r3: u64) -> Change
     ensures { result ≡ refused_by r3 }
@@ -36,7 +34,7 @@ fn renewal(r3: u64) -> Change
 fn get_change(flags: u64, r3: u64) -> Change
     ensures { result ≡ get_change flags r3 }
 {
-    if flags / BIT_0 == 1 {
+    if is_wide(flags) {
         return Change::Nothing;
     }
     refused_by(r3)
@@ -45,7 +43,7 @@ fn get_change(flags: u64, r3: u64) -> Change
 fn set_change(flags: u64, r3: u64, buffer: &[u8]) -> Change
     ensures { result ≡ set_change flags r3 (set_in buffer.now) }
 {
-    if flags / BIT_0 == 1 {
+    if is_wide(flags) {
         return Change::Nothing;
     }
     if r3 != 0 {
@@ -70,12 +68,12 @@ fn run_change(r3: u64, exit_reason: u64, input: &[u8]) -> Change
 pub fn change_for(kind: u64, flags: u64, r3: u64, exit_reason: u64, bytes: &[u8]) -> Change
     ensures { result ≡ change_for kind flags r3 exit_reason (set_in bytes.now) }
 {
-    match kind {
-        4 => renewal(r3),
-        5 => get_change(flags, r3),
-        6 => set_change(flags, r3, bytes),
-        7 => run_change(r3, exit_reason, bytes),
-        8 => renewal(r3),
-        _ => Change::Nothing,
+    match Kind::from_number(kind) {
+        Some(Kind::CreateVcpu | Kind::DeleteGuest) => renewal(r3),
+        Some(Kind::GetState) => get_change(flags, r3),
+        Some(Kind::SetState) => set_change(flags, r3, bytes),
+        Some(Kind::RunVcpu) => run_change(r3, exit_reason, bytes),
+        Some(Kind::GetCapabilities | Kind::SetCapabilities | Kind::CreateGuest) | None =>
+            Change::Nothing,
     }
 }

@@ -3,15 +3,15 @@ ghost use Rattle.std.specs.Prelude.{◌≡◌};
 ghost use Rattle.tally.specs.Tally.{plus, changed};
 ghost use Rattle.tally.specs.Private.{after};
 
-use super::{Change, Served, Summary};
+use super::{Change, Summary};
 
 // A counter stays at its greatest value.
 fn plus(n: u32, k: u64) -> u32
     ensures { result ≡ plus n k }
 {
-    let room = 4294967295 - n;
-    if (room as u64) < k {
-        return 4294967295;
+    let room = u32::MAX - n;
+    if u64::from(room) < k {
+        return u32::MAX;
     }
     n + k as u32
 }
@@ -28,31 +28,26 @@ fn changed(t: Summary, change: Change) -> Summary
             exit_reason: 4095,
         },
         Change::Set(n) => Summary {
-            runs: t.runs,
             elements: plus(t.elements, n),
-            refusals: t.refusals,
-            exit_reason: t.exit_reason,
+            ..t
         },
-        Change::Ran(n, exit) => Summary {
+        Change::Ran(n, exit_reason) => Summary {
             runs: plus(t.runs, 1),
             elements: plus(t.elements, n),
-            refusals: t.refusals,
-            exit_reason: exit,
+            exit_reason,
+            ..t
         },
         Change::Refused => Summary {
-            runs: t.runs,
-            elements: t.elements,
             refusals: plus(t.refusals, 1),
-            exit_reason: t.exit_reason,
+            ..t
         },
     }
 }
 
 // Changed if its slot, the least significant bit of `left`, is touched.
-pub fn after(t: Summary, left: u64, served: Served) -> Summary
-    ensures { result ≡ after left served.change t }
+pub fn after(t: Summary, left: u64, change: Change) -> Summary
+    ensures { result ≡ after left change t }
 {
-    let change = served.change;
     if left % 2 == 1 {
         return changed(t, change);
     }

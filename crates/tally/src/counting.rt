@@ -10,10 +10,7 @@ fn weight(b: &[u8], at: usize) -> u64
     requires { at + 4 ≤ length b.now }
     ensures { (result ≡ weight_at b.now at) × (result ≤ 1) }
 {
-    if get16(b, at) == 0 {
-        return 0;
-    }
-    1
+    if get16(b, at) == 0 { 0 } else { 1 }
 }
 
 fn next(b: &[u8], at: usize) -> usize
@@ -32,15 +29,13 @@ pub fn elements_set(b: &[u8]) -> u64
     }
     let count = get32(b, 0) as usize;
     let mut at = 4;
-    let mut i = 0;
     let mut total = 0;
-    while i < count {
+    for _i in 0..count {
         if b.len() < at + 4 {
             return total;
         }
-        total = total + weight(b, at);
+        total += weight(b, at);
         at = next(b, at);
-        i += 1;
     }
     total
 }

@@ -1,5 +1,5 @@
 // The layer: a call by its number, then the records.
-ghost use Rattle.std.specs.Prelude.{◌≡◌, ◌&&◌, ltb, length};
+ghost use Rattle.std.specs.Prelude.{◌≡◌, length};
 ghost use Rattle.store.specs.Layout.{layout_of};
 ghost use Rattle.tally.specs.Tally.{Noted, r3_of, told_by, notes, tallied};
 ghost use Rattle.tally.specs.Private.{Serves, noted_at};
@@ -22,8 +22,7 @@ fn told_by(kind: u64, a: Answer) -> Registers
 fn r3_of(kind: u64, a: Answer) -> u64
     ensures { result ≡ r3_of kind a }
 {
-    let told = registers_of(kind_name(kind), a);
-    told.r3
+    told_by(kind, a).r3
 }
 
 // With as many records as slots. What is known only before the call is taken first.
@@ -108,45 +107,17 @@ fn serve(
     )
 }
 
-// What is left of `served`, for the two functions that take the records.
-fn first_of(served: Served) -> usize
-    ensures { result ≡ served.first }
-{
-    served.first
-}
-
-fn slots_of(served: Served) -> u64
-    ensures { result ≡ served.slots }
-{
-    served.slots
-}
-
-fn answer_of(served: Served) -> Answer
-    ensures { result ≡ served.answer }
-{
-    served.answer
-}
-
-// Whether a touched slot may still be among the records from i on.
-fn some_left(i: usize, count: usize, left: u64) -> bool
-    ensures { result ≡ (ltb i count && ltb 0 left) }
-{
-    if i < count {
-        return 0 < left;
-    }
-    false
-}
-
 // The one function that writes records: those of the slots that the call touches. It stops behind the last of them.
 fn update(records: &mut [Summary], served: Served)
     ensures { records.new ≡ noted_at served.first served.slots served.change records.old }
 {
-    let mut i = first_of(served);
-    let mut left = slots_of(served);
-    while some_left(i, records.len(), left) {
-        records[i] = after(records[i], left, served);
-        left = left / 2;
-        i += 1;
+    let mut left = served.slots;
+    for i in served.first..records.len() {
+        if left == 0 {
+            return;
+        }
+        records[i] = after(records[i], left, served.change);
+        left /= 2;
     }
 }
 
@@ -178,5 +149,5 @@ pub fn tally(
         effect,
     );
     update(records, served);
-    told_by(kind, answer_of(served))
+    told_by(kind, served.answer)
 }

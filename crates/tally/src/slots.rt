@@ -1,15 +1,15 @@
 // Which records a call touches, from the store before it: a delete clears the words by which its slots are known.
 ghost use Rattle.std.specs.Prelude.{◌≡◌, cond, ◌≤◌, ◌<◌, eqb, length};
-ghost use Rattle.store.specs.Layout.{layout_of, Sound};
+ghost use Rattle.store.specs.Layout.{layout_of};
 ghost use Rattle.store.specs.Header.{guest_of};
 ghost use Rattle.tally.specs.Tally.{dropped};
 ghost use Rattle.tally.specs.Private.{mask_of, one, no_slot, touched_by, HeldBytes};
 
 use super::Touched;
+use admission::is_wide;
+use l0::Kind;
 use octets::get64;
 use store::{Layout, free_slot, layout_of, slot_at, slot_of, slot_word};
-
-const BIT_0: u64 = 0x8000_0000_0000_0000;
 
 // 0x0C00 stands first in a slot's values; its size is its second eight bytes.
 const INPUT_SIZE: usize = 8;
@@ -24,33 +24,27 @@ fn guest_of(l: Layout, w: usize) -> u64
     (named - l.ids) as u64
 }
 
-// 1 if a delete drops slot a.
-fn drops(store: &[u8], l: Layout, flags: u64, guest: u64, a: usize) -> u64
-    requires { Sound l × (length store.now ≡ l.size) × (a < l.slots) }
-    ensures { (result ≡ cond (dropped l store.now flags guest a) 1 0) × (result ≤ 1) }
+// Whether a delete drops slot a.
+fn drops(store: &[u8], l: Layout, flags: u64, guest: u64, a: usize) -> bool
+    requires { (length store.now ≡ l.size) × (a < l.slots) }
+    ensures { result ≡ dropped l store.now flags guest a }
 {
     let w = slot_word(store, l, a);
-    if flags / BIT_0 == 1 {
-        if w == 0 {
-            return 0;
-        }
-        return 1;
+    if is_wide(flags) {
+        return w != 0;
     }
-    if guest_of(l, w) == guest {
-        return 1;
-    }
-    0
+    guest_of(l, w) == guest
 }
 
 fn dropped_slots(store: &[u8], l: Layout, flags: u64, guest: u64) -> u64
-    requires { Sound l × (length store.now ≡ l.size) }
+    requires { length store.now ≡ l.size }
     ensures { result ≡ mask_of (dropped l store.now flags guest) l.slots 0 }
 {
     let mut mask = 0;
     let mut a = l.slots;
     while 0 < a {
         a -= 1;
-        mask = 2 * mask + drops(store, l, flags, guest, a);
+        mask = 2 * mask + u64::from(drops(store, l, flags, guest, a));
     }
     mask
 }
@@ -61,21 +55,27 @@ fn one(a: usize) -> Touched
     Touched { first: a, slots: 1 }
 }
 
-// In a store of the layout's length.
+// In a store of the layout's length. A call that has no slot names the record past the last.
 fn touched_with(store: &[u8], l: Layout, kind: u64, flags: u64, guest: u64, number: u64) -> Touched
     requires { (l ≡ layout_of store.now) × (length store.now ≡ l.size) }
     ensures { result ≡ touched_by l store.now kind flags guest number }
 {
-    match kind {
-        4 => one(free_slot(store, l)),
-        5 => one(slot_of(store, l, guest as usize, number as usize)),
-        6 => one(slot_of(store, l, guest as usize, number as usize)),
-        7 => one(slot_of(store, l, guest as usize, number as usize)),
-        8 => Touched {
+    match Kind::from_number(kind) {
+        Some(Kind::CreateVcpu) => one(free_slot(store, l).unwrap_or(l.slots)),
+        Some(Kind::GetState | Kind::SetState | Kind::RunVcpu) => one(slot_of(
+            store,
+            l,
+            guest as usize,
+            number as usize,
+        ).unwrap_or(l.slots)),
+        Some(Kind::DeleteGuest) => Touched {
             first: 0,
             slots: dropped_slots(store, l, flags, guest),
         },
-        _ => Touched { first: 0, slots: 0 },
+        Some(Kind::GetCapabilities | Kind::SetCapabilities | Kind::CreateGuest) | None => Touched {
+            first: 0,
+            slots: 0,
+        },
     }
 }
 
@@ -95,9 +95,9 @@ pub fn held_bytes(store: &[u8], l: Layout, kind: u64, slot: usize, len: usize) -
     requires { l ≡ layout_of store.now }
     ensures { (result ≤ len) × HeldBytes l store.now kind slot len result }
 {
-    if kind != 7 {
+    let Some(Kind::RunVcpu) = Kind::from_number(kind) else {
         return len;
-    }
+    };
     if store.len() != l.size {
         return len;
     }

@@ -18,11 +18,11 @@ use Rattle.rules.specs.Rules.{permits, size_fits, scope_for}
 use Rattle.elements.specs.Right.{bytes_of}
 use Rattle.elements.proofs.Table.{entry_rule, listed_stored, listed_fixed, position_end}
 use Rattle.rules.proofs.Rules.{size_listed, permits_scope}
-use Rattle.gsb.specs.declared.Walked.TheVariants.{Done}
 use Rattle.gsb.specs.Walk.{count_of, id_at, size_at, offset_at, first_bad}
 use Rattle.gsb.proofs.Judged.{good_element}
 use Rattle.gsb.proofs.First.{all_good}
 use Rattle.transfer.specs.Transfer.{Fits, Moves, Ready, AllReady}
+use Rattle.std.proofs.Common.{Ok}
 
 -- the two fixed numbers have eight bytes
 fixed_size : (id : ℕ) (x : Entry) → kind_of id ≡ Listed x → is_stored id ≡ false → x.size ≡ 8
@@ -51,7 +51,7 @@ module _ (k : Context) (base len : ℕ) (room : base + bytes_of (scope_for k.usa
   moves id size Nop e p f = tt
   moves id size (Listed x) e p f = (size_listed x size f, fits id x size e (permits_scope k id x p) (size_listed x size f) (is_stored id) refl x.source refl)
 
-  pub ready_all : (b : List ℕ) → 4 ≤ length b → first_bad k b ≡ Done → AllReady base b len
+  pub ready_all : (b : List ℕ) → 4 ≤ length b → first_bad k b ≡ Ok tt → AllReady base b len
   ready_all b h d = record { long = h; each = λ i l. at i l }
     where
       at : (i : ℕ) → i < count_of b → Ready base b (offset_at b i) len

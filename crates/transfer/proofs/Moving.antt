@@ -22,8 +22,7 @@ use Rattle.gsb.specs.Walk.{count_of, id_at, size_at, next_at, offset_at}
 use Rattle.gsb.proofs.Judged.{empty_parts, nop}
 use Rattle.gsb.proofs.Walks.{offset_next}
 use Rattle.answer.specs.declared.Place.{Place}
-use Rattle.transfer.specs.declared.Step.{Step}
-use Rattle.transfer.specs.declared.Step.TheVariants.{Next, Other}
+use Rattle.std.proofs.Common.{Option, None, Some}
 use Rattle.transfer.specs.Private.{Stepped, Onward}
 use Rattle.transfer.specs.Transfer.{value_at, put_from, put_as, applied, read_from, fill_as, Fits, Moves, Ready, AllReady}
 
@@ -39,9 +38,13 @@ module _ (source : Source) (base size len : ℕ) where
   fits_fixed n f e = subst (λ (x : Source). Fits x base size len) e f
 
 module _ (source : Source) (base : ℕ) (v s : List ℕ) where
-  pub put_fixed : (n : ℕ) → source ≡ Fixed n → s ≡ put_from source base v s
+  pub put_other : ((p : ℕ) → source ≡ Stored p → ⊥) → s ≡ put_from source base v s
   unfolding put_from
-  put_fixed n e = sym (ap (λ (x : Source). put_from x base v s) e)
+  put_other = go source
+    where
+      go : (x : Source) → ((p : ℕ) → x ≡ Stored p → ⊥) → s ≡ put_from x base v s
+      go (Fixed n) h = refl
+      go (Stored p) h = absurd (h p refl)
 
   pub put_stored : (p : ℕ) (t : List ℕ) → source ≡ Stored p → t ≡ put s (base + p) v → t ≡ put_from source base v s
   unfolding put_from
@@ -86,9 +89,14 @@ value_two d x y b to from size p q e h =
     copy_part d to b from x 16 y 8 p (omega arith) q ∙ ap (λ (n : ℕ). put d to (bytes_at b from n)) (sym e)
 
 module _ (kind : Kind) (base : ℕ) (v s : List ℕ) where
-  pub as_unlisted : kind ≡ Unlisted → s ≡ put_as kind base v s
+  pub as_other : ((x : Entry) → kind ≡ Listed x → ⊥) → s ≡ put_as kind base v s
   unfolding put_as
-  as_unlisted e = sym (ap (λ (k : Kind). put_as k base v s) e)
+  as_other = go kind
+    where
+      go : (k : Kind) → ((x : Entry) → k ≡ Listed x → ⊥) → s ≡ put_as k base v s
+      go Unlisted h = refl
+      go Nop h = refl
+      go (Listed x) h = absurd (h x refl)
 
   pub as_nop : kind ≡ Nop → s ≡ put_as kind base v s
   unfolding put_as
@@ -99,9 +107,14 @@ module _ (kind : Kind) (base : ℕ) (v s : List ℕ) where
   as_listed x t e h = h ∙ sym (ap (λ (k : Kind). put_as k base v s) e)
 
 module _ (kind : Kind) (base : ℕ) (s : List ℕ) (at : ℕ) (b : List ℕ) where
-  pub fill_unlisted : kind ≡ Unlisted → b ≡ fill_as kind base s at b
+  pub fill_other : ((x : Entry) → kind ≡ Listed x → ⊥) → b ≡ fill_as kind base s at b
   unfolding fill_as
-  fill_unlisted e = sym (ap (λ (k : Kind). fill_as k base s at b) e)
+  fill_other = go kind
+    where
+      go : (k : Kind) → ((x : Entry) → k ≡ Listed x → ⊥) → b ≡ fill_as k base s at b
+      go Unlisted h = refl
+      go Nop h = refl
+      go (Listed x) h = absurd (h x refl)
 
   pub fill_nop : kind ≡ Nop → b ≡ fill_as kind base s at b
   unfolding fill_as
@@ -219,24 +232,24 @@ pub next_turn : (b : List ℕ) (i at r : ℕ) → at ≡ offset_at b i → r ≡
 next_turn b i at r e h = h ∙ offset_next b i at e
 
 -- ---- the turns of `store_registers`, from the store s on
-pub other_same : (base : ℕ) (b : List ℕ) (at : ℕ) (v : Step) (t w : List ℕ) → Stepped v base b at t w → v ≡ Other → w ≡ t
-other_same base b at v t w h e = subst (λ (x : Step). Stepped x base b at t w) e h
+pub other_same : (base : ℕ) (b : List ℕ) (at : ℕ) (v : Option ℕ) (t w : List ℕ) → Stepped v base b at t w → v ≡ None → w ≡ t
+other_same base b at v t w h e = subst (λ (x : Option ℕ). Stepped x base b at t w) e h
 
 module _ (base : ℕ) (b : List ℕ) (count : ℕ) (from : Place) (s : List ℕ) where
   -- where s has the elements before the first place, t has those before i
   abbrev pub Since : ℕ → List ℕ → Type 0
   Since i t = (u : List ℕ) → s ≡ applied base b from.index u → t ≡ applied base b i u
 
-  step_of : (at next : ℕ) (v : Step) (t w : List ℕ) → Stepped v base b at t w → v ≡ Next next → Stepped (Next next) base b at t w
-  step_of at next v t w h e = subst (λ (x : Step). Stepped x base b at t w) e h
+  step_of : (at next : ℕ) (v : Option ℕ) (t w : List ℕ) → Stepped v base b at t w → v ≡ Some next → Stepped (Some next) base b at t w
+  step_of at next v t w h e = subst (λ (x : Option ℕ). Stepped x base b at t w) e h
 
-  pub since_next : (i at next : ℕ) (v : Step) (t w : List ℕ) → Since i t → at ≡ offset_at b i → Stepped v base b at t w → v ≡ Next next → Since (i + 1) w
+  pub since_next : (i at next : ℕ) (v : Option ℕ) (t w : List ℕ) → Since i t → at ≡ offset_at b i → Stepped v base b at t w → v ≡ Some next → Since (i + 1) w
   since_next i at next v t w f o h e u g = apply_turn base b u i at t w (f u g) o (step_of at next v t w h e).1
 
-  pub since_place : (i at next : ℕ) (v : Step) (t w : List ℕ) → at ≡ offset_at b i → Stepped v base b at t w → v ≡ Next next → next ≡ offset_at b (i + 1)
+  pub since_place : (i at next : ℕ) (v : Option ℕ) (t w : List ℕ) → at ≡ offset_at b i → Stepped v base b at t w → v ≡ Some next → next ≡ offset_at b (i + 1)
   since_place i at next v t w o h e = next_turn b i at next o (step_of at next v t w h e).0
 
-  pub since_length : (at next : ℕ) (v : Step) (t w : List ℕ) → Stepped v base b at t w → v ≡ Next next → length t ≡ length s → length w ≡ length s
+  pub since_length : (at next : ℕ) (v : Option ℕ) (t w : List ℕ) → Stepped v base b at t w → v ≡ Some next → length t ≡ length s → length w ≡ length s
   since_length at next v t w h e l =
       ap length (step_of at next v t w h e).1 ∙ length_put_as (kind_of (id_at b at)) base (value_at b at) t ∙ l
 

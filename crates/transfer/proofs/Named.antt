@@ -19,15 +19,15 @@ use Rattle.rules.specs.Rules.{permits, size_fits, scope_for}
 use Rattle.elements.specs.Right.{bytes_of}
 use Rattle.elements.proofs.Table.{position_end, source_stored}
 use Rattle.rules.proofs.Rules.{size_listed, permits_scope}
-use Rattle.gsb.specs.declared.Walked.TheVariants.{Done}
 use Rattle.gsb.specs.Walk.{count_of, id_at, size_at, next_at, offset_at, first_bad}
 use Rattle.gsb.proofs.Judged.{GoodElement, good_element}
 use Rattle.gsb.proofs.First.{all_good}
 use Rattle.transfer.specs.Transfer.{value_at, put_from, put_as, applied, read_from, fill_as, filled, Moves, AllReady}
 use Rattle.transfer.specs.Named.{Named, ValueByte}
 use Rattle.transfer.proofs.Moving.{length_read, length_applied}
+use Rattle.std.proofs.Common.{Ok}
 
-module _ (k : Context) (b : List ℕ) (d : first_bad k b ≡ Done) where
+module _ (k : Context) (b : List ℕ) (d : first_bad k b ≡ Ok tt) where
   pub counted_good : (i : ℕ) → i < count_of b → GoodElement k b (offset_at b i)
   counted_good i l = (good_element k b (offset_at b i) (offset_at b (i + 1)) ((all_good k b).0 d i l)).0
 
@@ -41,7 +41,7 @@ module _ (k : Context) (b : List ℕ) (d : first_bad k b ≡ Done) where
       let z : bytes_of x.scope ≡ bytes_of (scope_for k.usage) = ap bytes_of (permits_scope k id x a) in
       omega (arith, y, z, f.1)
 
-module _ (k : Context) (base : ℕ) (b : List ℕ) (d : first_bad k b ≡ Done) where
+module _ (k : Context) (base : ℕ) (b : List ℕ) (d : first_bad k b ≡ Ok tt) where
   -- one element stored
   element_frame : (i j : ℕ) (s : List ℕ) → i < count_of b → (Named base b (suc i) j → ⊥) → (kind : Kind) → kind_of (id_at b (offset_at b i)) ≡ kind → size_fits kind (size_at b (offset_at b i)) ≡ true
       → get_or (put_as kind base (value_at b (offset_at b i)) s) j 0 ≡ get_or s j 0

@@ -5,6 +5,7 @@ use Prim.Native.Nat.{ℕ, ◌+◌, ◌^◌, ◌≤◌, ◌<◌}
 use native.Mathlib.Omega.{arith}
 use lib.ListN.{length}
 use Rattle.octets.specs.Bytes.{bytes_at, put}
+use Rattle.std.specs.Prelude.{Some}
 use Rattle.elements.specs.declared.Register.{Register}
 use Rattle.elements.specs.Registers.{register_of}
 use Rattle.elements.proofs.RegisterLaws.{IsRegister, is_register}
@@ -13,9 +14,9 @@ use Rattle.elements.specs.Table.{kind_of}
 use Rattle.transfer.specs.Transfer.{value_at, put_as, fill_as, Ready}
 use Rattle.transfer.proofs.Moving.{register_fits, register_stored, register_filled}
 
-module _ (b : List ℕ) (at base len id : ℕ) (x : Register) (i : id ≡ id_at b at) (e : x ≡ register_of id) (n : x.size ≡ 0 → ⊥) (y : Ready base b at len) where
+module _ (b : List ℕ) (at base len id : ℕ) (x : Register) (i : id ≡ id_at b at) (e : Some x ≡ register_of id) (y : Ready base b at len) where
   its : IsRegister id x
-  its = is_register id x e n
+  its = is_register id x e
 
   its_fits : (base + x.position + x.size ≤ len) × (at + 4 + x.size ≤ length b) × (at + 4 + x.size ≡ next_at b at)
   its_fits = register_fits b at base len id i y x.size x.position its.access its.kind

@@ -22,13 +22,8 @@ fn fill_as(kind: Kind, store: &[u8], base: usize, b: &mut [u8], at: usize, size:
     requires { Moves kind base size (length store.now) × (at + 4 + size ≤ length b.old) }
     ensures { b.new ≡ fill_as kind base store.now at b.old }
 {
-    match kind {
-        Kind::Unlisted => {}
-        Kind::Nop => {}
-        Kind::Listed(x) => {
-            let source = x.source;
-            fill_from(source, store, base, b, at + 4, x.size)
-        }
+    if let Kind::Listed(x) = kind {
+        fill_from(x.source, store, base, b, at + 4, x.size);
     }
 }
 
@@ -49,10 +44,9 @@ fn fill_element(store: &[u8], base: usize, b: &mut [u8], at: usize) -> usize
     requires { Ready base b.old at (length store.now) }
     ensures { (result ≡ next_at b.old at) × (b.new ≡ fill_as (kind_of (id_at b.old at)) base store.now at b.old) }
 {
-    let x = register_of(get16(b, at));
-    if x.size == 0 {
+    let Some(x) = register_of(get16(b, at)) else {
         return fill_other(store, base, b, at);
-    }
+    };
     copy(store, base + x.position, b, at + 4, x.size);
     let step = 4 + x.size;
     at + step
@@ -65,9 +59,7 @@ pub fn fill(store: &[u8], base: usize, b: &mut [u8])
 {
     let count = get32(b, 0) as usize;
     let mut at = 4;
-    let mut i = 0;
-    while i < count {
+    for _i in 0..count {
         at = fill_element(store, base, b, at);
-        i += 1;
     }
 }

@@ -16,32 +16,12 @@ use elements::{Kind, Source, kind_of, register_of};
 pub use filling::fill;
 use octets::{copy, get16, get32};
 
-// What became of an element: it was stored, and the next starts here; or it is no register, and nothing was done.
-#[derive(Clone, Copy)]
-pub enum Step {
-    Next(usize),
-    Other,
-}
-
-// A value of 24 bytes in two copies of known sizes, as all others are.
-fn store_value(b: &[u8], from: usize, store: &mut [u8], to: usize, size: usize)
-    requires { (from + size ≤ length b.now) × (to + size ≤ length store.old) }
-    ensures { store.new ≡ put store.old to (bytes_at b.now from size) }
-{
-    if size == 24 {
-        copy(b, from, store, to, 16);
-        return copy(b, from + 16, store, to + 16, 8);
-    }
-    copy(b, from, store, to, size)
-}
-
 fn put_from(source: Source, store: &mut [u8], base: usize, b: &[u8], from: usize, size: usize)
     requires { Fits source base size (length store.old) × (from + size ≤ length b.now) }
     ensures { store.new ≡ put_from source base (bytes_at b.now from size) store.old }
 {
-    match source {
-        Source::Fixed(_) => {}
-        Source::Stored(position) => store_value(b, from, store, base + position, size),
+    if let Source::Stored(position) = source {
+        copy(b, from, store, base + position, size);
     }
 }
 
@@ -49,13 +29,8 @@ fn put_as(kind: Kind, store: &mut [u8], base: usize, b: &[u8], from: usize, size
     requires { Moves kind base size (length store.old) × (from + size ≤ length b.now) }
     ensures { store.new ≡ put_as kind base (bytes_at b.now from size) store.old }
 {
-    match kind {
-        Kind::Unlisted => {}
-        Kind::Nop => {}
-        Kind::Listed(x) => {
-            let source = x.source;
-            put_from(source, store, base, b, from, size)
-        }
+    if let Kind::Listed(x) = kind {
+        put_from(x.source, store, base, b, from, size);
     }
 }
 
@@ -72,21 +47,20 @@ fn store_other(store: &mut [u8], base: usize, b: &[u8], at: usize) -> usize
     at + 4 + size
 }
 
-// Stores the element at `at` if it is a register, by its listed size: the next element does not wait for this one's.
-fn store_register(store: &mut [u8], base: usize, b: &[u8], at: usize) -> Step
+// Stores the element at `at` if it is a register, by its listed size: the next element does not wait for this one's. Returns where the
+// next starts; `None` if it is no register, and then nothing was done.
+fn store_register(store: &mut [u8], base: usize, b: &[u8], at: usize) -> Option<usize>
     requires { Ready base b.now at (length store.old) }
     ensures { Stepped result base b.now at store.old store.new }
 {
-    let x = register_of(get16(b, at));
-    if x.size == 0 {
-        return Step::Other;
-    }
+    let x = register_of(get16(b, at))?;
     copy(b, at + 4, store, base + x.position, x.size);
     let step = 4 + x.size;
-    Step::Next(at + step)
+    Some(at + step)
 }
 
-// The registers that follow one another from a place on, stored: a loop of their own is short.
+// The registers that follow one another from a place on, stored: a loop of their own is short. No `for`: the compiler counts its index twice, three
+// instructions an element more.
 fn store_registers(store: &mut [u8], base: usize, b: &[u8], count: usize, from: Place) -> Place
     requires { AllReady base b.now (length store.old) × (count ≡ count_of b.now) × (from.index ≤ count) × (from.offset ≡ offset_at b.now from.index) }
     ensures { Onward base b.now count from result store.old store.new }
@@ -94,7 +68,7 @@ fn store_registers(store: &mut [u8], base: usize, b: &[u8], count: usize, from: 
     let mut at = from.offset;
     let mut i = from.index;
     while i < count {
-        let Step::Next(next) = store_register(store, base, b, at) else {
+        let Some(next) = store_register(store, base, b, at) else {
             return Place {
                 index: i,
                 offset: at,

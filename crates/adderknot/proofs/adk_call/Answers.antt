@@ -10,17 +10,17 @@ returns-then-flags-eq-HAND_OVER c = search (rules, by_get_state, got_by_taking)
 pub returns-then-flags-eq-HAND_OVER-2 : goal.returns-then-flags-eq-HAND_OVER-2
 returns-then-flags-eq-HAND_OVER-2 c = search (rules, by_set_state, set_by_giving)
 
-pub returns-in-1 : goal.returns-in-1
-returns-in-1 c = search (rules, by_get_capabilities)
+pub returns-in-Some-GetCapabilities : goal.returns-in-Some-GetCapabilities
+returns-in-Some-GetCapabilities c = search (rules, by_get_capabilities)
 
-pub returns-in-2 : goal.returns-in-2
-returns-in-2 c = search (rules, by_set_capabilities)
+pub returns-in-Some-SetCapabilities : goal.returns-in-Some-SetCapabilities
+returns-in-Some-SetCapabilities c = search (rules, by_set_capabilities)
 
-pub returns-in-3 : goal.returns-in-3
-returns-in-3 c = search (rules, by_create_guest)
+pub returns-in-Some-CreateGuest : goal.returns-in-Some-CreateGuest
+returns-in-Some-CreateGuest c = search (rules, by_create_guest)
 
-pub returns-in-4 : goal.returns-in-4
-returns-in-4 c = search (rules, by_create_vcpu)
+pub returns-in-Some-CreateVcpu : goal.returns-in-Some-CreateVcpu
+returns-in-Some-CreateVcpu c = search (rules, by_create_vcpu)
 
 pub returns-else-flags-eq-HAND_OVER : goal.returns-else-flags-eq-HAND_OVER
 returns-else-flags-eq-HAND_OVER c = search (rules, by_get_state, got_by_elements)
@@ -28,11 +28,11 @@ returns-else-flags-eq-HAND_OVER c = search (rules, by_get_state, got_by_elements
 pub returns-else-flags-eq-HAND_OVER-2 : goal.returns-else-flags-eq-HAND_OVER-2
 returns-else-flags-eq-HAND_OVER-2 c = search (rules, by_set_state, set_by_elements)
 
-pub returns-in-7 : goal.returns-in-7
-returns-in-7 c = search (rules, by_run_vcpu)
+pub returns-in-Some-RunVcpu : goal.returns-in-Some-RunVcpu
+returns-in-Some-RunVcpu c = search (rules, by_run_vcpu)
 
-pub returns-in-8 : goal.returns-in-8
-returns-in-8 c = search (rules, by_delete_guest)
+pub returns-in-Some-DeleteGuest : goal.returns-in-Some-DeleteGuest
+returns-in-Some-DeleteGuest c = search (rules, by_delete_guest)
 
-pub returns-in_default : goal.returns-in_default
-returns-in_default c = search (rules, by_none)
+pub returns-in-None : goal.returns-in-None
+returns-in-None c = search (rules, by_none)

@@ -25,10 +25,10 @@ pub returns-then-b-at-2 : goal.returns-then-b-at-2
 returns-then-b-at-2 c = search (rules, at_end)
 
 pub overflow_add-base : goal.overflow_add-base
-overflow_add-base c = omega (arith, cell_inside c.args.base c.args.store.now _ _ _ _ _ c.requires.good_row c.requires.reached _ _ c.if-b-at-lt4.false c.get16-id.ensures c.get16-size.ensures c.if-id-eq0.false _ c.standing_of.ensures _ c.in-New.is _ c.cell_of-cell.ensures c.requires.slot_bytes_in_bounds)
+overflow_add-base c = omega (arith, cell_inside c.args.base c.args.store.now _ _ _ _ _ c.requires.good_ids c.requires.reached _ _ c.if-b-at-lt4.false c.get16-id.ensures c.get16-size.ensures c.if-id-eq0.false _ c.new_place.ensures _ c.in-Some.is _ c.cell_of-cell.ensures c.requires.slot_bytes_in_bounds)
 
 pub same_value-requires : goal.same_value-requires
-same_value-requires c = (search rules, omega (arith, cell_inside c.args.base c.args.store.now _ _ _ _ _ c.requires.good_row c.requires.reached _ _ c.if-b-at-lt4.false c.get16-id.ensures c.get16-size.ensures c.if-id-eq0.false _ c.standing_of.ensures _ c.in-New.is _ c.cell_of-cell.ensures c.requires.slot_bytes_in_bounds))
+same_value-requires c = (search rules, omega (arith, cell_inside c.args.base c.args.store.now _ _ _ _ _ c.requires.good_ids c.requires.reached _ _ c.if-b-at-lt4.false c.get16-id.ensures c.get16-size.ensures c.if-id-eq0.false _ c.new_place.ensures _ c.in-Some.is _ c.cell_of-cell.ensures c.requires.slot_bytes_in_bounds))
 
 pub returns-then-not-same_value : goal.returns-then-not-same_value
 returns-then-not-same_value c = search (rules, at_value)
@@ -37,7 +37,7 @@ pub overflow_shl-result : goal.overflow_shl-result
 overflow_shl-result c = search (rules, place_small)
 
 pub overflow_add-result-4 : goal.overflow_add-result-4
-overflow_add-result-4 c = omega (arith, mark_small _ _ _ _ _ _ _ c.requires.good_row c.requires.reached c.standing_of.ensures _ c.in-New.is)
+overflow_add-result-4 c = omega (arith, mark_small _ _ _ _ _ _ _ c.requires.good_ids c.requires.reached c.new_place.ensures _ c.in-Some.is)
 
 pub returns : goal.returns
-returns c = at_good _ _ _ _ _ _ _ c.requires.good_row c.requires.reached _ _ c.if-b-at-lt4.false c.get16-id.ensures c.get16-size.ensures c.if-id-eq0.false _ c.standing_of.ensures _ c.in-New.is _ c.cell_of-cell.ensures c.requires.slot_bytes_in_bounds c.if-cell-size.false c.if-b-at-2.false _ c.same_value.ensures (ap not c.if-not-same_value.false)
+returns c = at_good _ _ _ _ _ _ _ c.requires.good_ids c.requires.reached _ _ c.if-b-at-lt4.false c.get16-id.ensures c.get16-size.ensures c.if-id-eq0.false _ c.new_place.ensures _ c.in-Some.is _ c.cell_of-cell.ensures c.requires.slot_bytes_in_bounds c.if-cell-size.false c.if-b-at-2.false _ c.same_value.ensures (ap not c.if-not-same_value.false)

@@ -1,17 +1,16 @@
--- 5, then 13, then the row of a known exit (`good_row`, `at_elements` of Tops).
-use Rattle.judging.proofs.Tops.{good_row, at_length, at_exit, at_elements}
-use Rattle.gsb.proofs.Walks.{long_enough}
+-- 5, then 13, then the elements that a known exit returns (`good_ids`, `at_elements` of Tops).
+use Rattle.judging.proofs.Tops.{good_ids, at_length, at_exit, at_elements}
 use borrow.Author.Rules.{rules}
 use Rattle.judging.proofs.judge_at.Goals as goal
 
 pub returns-then-bad_length : goal.returns-then-bad_length
 returns-then-bad_length c = search (rules, at_length)
 
-pub returns-then-i-ge7 : goal.returns-then-i-ge7
-returns-then-i-ge7 c = search (rules, at_exit)
+pub returns-in_default : goal.returns-in_default
+returns-in_default c = at_exit _ _ _ _ _ c.bad_length.ensures c.if-bad_length.false c.in_default.ensures
 
-pub judge_elements-requires : goal.judge_elements-requires
-judge_elements-requires c = record { slot_bytes_in_bounds = search rules; good_row = search (rules, good_row); in_bounds = search (rules, long_enough) }
+pub judge_elements-requires-clause-good_ids : goal.judge_elements-requires-clause-good_ids
+judge_elements-requires-clause-good_ids c = let p = c.in-Some.ensures in good_ids _ _ p.1
 
 pub returns : goal.returns
-returns c = search (rules, at_elements)
+returns c = let p = c.in-Some.ensures in at_elements _ _ _ _ _ c.bad_length.ensures c.if-bad_length.false _ _ p.0 p.1 c.judge_elements.ensures

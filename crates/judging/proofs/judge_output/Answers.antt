@@ -6,8 +6,11 @@ use Rattle.judging.proofs.judge_output.Goals as goal
 pub judge_at-requires : goal.judge_at-requires
 judge_at-requires c = search (rules, target_room)
 
-pub returns-in-Refused : goal.returns-in-Refused
-returns-in-Refused c = search (rules, output_refused)
+pub returns-in-Err : goal.returns-in-Err
+returns-in-Err c = search (rules, output_refused)
 
-pub returns-in-At : goal.returns-in-At
-returns-in-At c = search (rules, output_judged)
+pub returns-in-Ok-judge_at : goal.returns-in-Ok-judge_at
+returns-in-Ok-judge_at c = output_judged _ _ _ _ _ _ _ c.target_of.ensures.value _ _ _ c.in-Ok.is c.in-Ok-judge_at.ensures c.success.ensures
+
+pub returns-in-Err-judge_at : goal.returns-in-Err-judge_at
+returns-in-Err-judge_at c = output_judged _ _ _ _ _ _ _ c.target_of.ensures.value _ _ _ c.in-Ok.is c.in-Err-judge_at.ensures c.refusal-in-Err-judge_at.ensures

@@ -9,7 +9,8 @@ ghost use Rattle.l1.specs.Marks.{good_cache};
 ghost use Rattle.l1.specs.Cache.{chosen, pending};
 ghost use Rattle.l1.specs.Private.{is_changed, word_bytes};
 
-use crate::marks::{changed_count, mark_from, next_mark};
+use crate::marks::{Marks, changed_count, mark_from, next_mark};
+use crate::value::Values;
 use elements::thread_element;
 use gsb::put_element;
 use octets::put32;
@@ -30,8 +31,9 @@ const SIXTEENS: [u64; 3] = [
 ];
 
 // How many bytes the elements of a word of changed marks take, each with four before its value.
-fn word_bytes(marks: &[u64], k: usize) -> usize
-    requires { (length marks.now ≡ 6) × (k < 3) }
+#[tactic(auto, using(crate::proofs::Sizes::word_none, crate::proofs::Sizes::word_bytes_lem, crate::proofs::Sizes::word_small))]
+fn word_bytes(marks: &Marks, k: usize) -> usize
+    requires { k < 3 }
     ensures { (result ≡ word_bytes (is_changed marks.now) k) × (result ≤ 2560) }
 {
     let word = marks[3 + k];
@@ -44,28 +46,29 @@ fn word_bytes(marks: &[u64], k: usize) -> usize
 }
 
 // How many bytes the input takes.
-pub fn bytes_needed(marks: &[u64]) -> usize
-    requires { length marks.now ≡ 6 }
+#[tactic(auto, using(crate::proofs::Sizes::bytes_all))]
+pub fn bytes_needed(marks: &Marks) -> usize
     ensures { result ≡ row_bytes (chosen (is_changed marks.now) 170) }
 {
     4 + word_bytes(marks, 0) + word_bytes(marks, 1) + word_bytes(marks, 2)
 }
 
-// The elements, behind the count.
-fn put_changed(values: &[u8], marks: &[u64], input: &mut [u8])
-    requires { (length values.now ≡ 1820) × (length marks.now ≡ 6) × (row_bytes (chosen (is_changed marks.now) 170) ≤ length input.old) }
+// The elements, behind the count. Not in line: its loop has the registers to itself.
+#[inline(never)]
+fn put_changed(values: &Values, marks: &Marks, input: &mut [u8])
+    requires { (good_cache Full (record { values = values.now; marks = marks.now }) ≡ true) × (row_bytes (chosen (is_changed marks.now) 170) ≤ length input.old) }
     ensures { input.new ≡ put input.old 4 (elements_bytes (valued 0 values.now (chosen (is_changed marks.now) 170))) }
 {
     let mut at = 4;
-    let mut mark = mark_from(marks, 3);
-    while mark.at < 362 {
+    let mut next = mark_from(marks, 3);
+    while let Some(mark) = next {
         let x = thread_element(mark.at - 192);
         at = put_element(input, at, x.id, values, x.position, x.size);
-        mark = next_mark(marks, mark);
+        next = next_mark(marks, mark);
     }
 }
 
-pub fn put_input(values: &[u8], marks: &[u64], input: &mut [u8])
+pub fn put_input(values: &Values, marks: &Marks, input: &mut [u8])
     requires { (good_cache Full (record { values = values.now; marks = marks.now }) ≡ true) × (length (message (pending (record { values = values.now; marks = marks.now }))) ≤ length input.old) }
     ensures { input.new ≡ put input.old 0 (message (pending (record { values = values.entry.now; marks = marks.now }))) }
 {

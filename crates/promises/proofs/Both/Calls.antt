@@ -20,7 +20,6 @@ use Rattle.elements.specs.Right.{bytes_of}
 use Rattle.rules.specs.declared.Usage.{Usage}
 use Rattle.rules.specs.declared.Usage.TheVariants.{RunInput, Effect as InEffect}
 use Rattle.rules.specs.Rules.{scope_for}
-use Rattle.gsb.specs.declared.Walked.TheVariants.{Done}
 use Rattle.gsb.specs.Walk.{count_of, first_bad}
 use Rattle.handover.specs.Form.{form, values_of, taken}
 use Rattle.store.specs.declared.Layout.{Layout}
@@ -55,6 +54,7 @@ use Rattle.promises.proofs.Both.Windows.{be_both, filled_both, output_both}
 use Rattle.promises.proofs.Both.Searches.{absent_both, exists_both, slot_found, away_found, any_live_both, slot_free, guest_free}
 use Rattle.promises.proofs.Both.Values.{Values, values_applied}
 use Rattle.promises.proofs.Both.Stores.{behind_mirror, guest_mirror, vcpu_mirror, delete_mirror, delete_all_mirror, caps_mirror, handed_mirror}
+use Rattle.std.proofs.Common.{Ok}
 
 -- what a call leaves on both: the same answer and buffer, and stores that still mirror each other
 pub record Agree (l m : Layout) (o p : Outcome) : Type 0 where
@@ -241,7 +241,7 @@ module _ (l m : Layout) (so : Sound l) (so' : Sound m) (within : Within l m) (s 
 
   -- an accepted buffer stored in stores u and v whose values agree
   module _ (wide : Bool) (guest vcpu : ℕ) (i : ℕ) (inside : Inside l wide i) (at : base_of l s wide guest vcpu ≡ place_of l wide i) (at' : base_of m t wide guest vcpu ≡ place_of m wide i) where
-    applied_values : (u v : List ℕ) → length u ≡ l.size → length v ≡ m.size → Values l m u v → (usage : Usage) (b : List ℕ) → first_bad (context_of l s guest usage) b ≡ Done → bytes_of (scope_for usage) ≡ room_of wide
+    applied_values : (u v : List ℕ) → length u ≡ l.size → length v ≡ m.size → Values l m u v → (usage : Usage) (b : List ℕ) → first_bad (context_of l s guest usage) b ≡ Ok tt → bytes_of (scope_for usage) ≡ room_of wide
         → Values l m (applied (base_of l s wide guest vcpu) b (count_of b) u) (applied (base_of m t wide guest vcpu) b (count_of b) v)
     applied_values u v e e' f usage b d r =
         subst (λ (x : ℕ). Values l m (applied x b (count_of b) u) (applied (base_of m t wide guest vcpu) b (count_of b) v)) (sym at)

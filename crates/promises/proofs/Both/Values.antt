@@ -10,7 +10,6 @@ use Rattle.octets.proofs.Bytes.{read_back, read_other}
 use Rattle.elements.specs.Right.{bytes_of}
 use Rattle.rules.specs.declared.Context.{Context}
 use Rattle.rules.specs.Rules.{scope_for}
-use Rattle.gsb.specs.declared.Walked.TheVariants.{Done}
 use Rattle.gsb.specs.Walk.{count_of, first_bad}
 use Rattle.store.specs.declared.Layout.{Layout}
 use Rattle.store.specs.Layout.{Sound}
@@ -21,6 +20,7 @@ use Rattle.store.proofs.Edited.{Edited}
 use Rattle.promises.specs.Mirror.{place_of, room_of, Inside, values_in}
 use Rattle.promises.proofs.Both.Windows.{applied_both}
 use Rattle.promises.proofs.Both.Places.{Other, Compared, same, other, compared, inside_more, place_from, place_room, places_apart}
+use Rattle.std.proofs.Common.{Ok}
 
 abbrev pub Values : Layout → Layout → List ℕ → List ℕ → Type 0
 Values l m s t = (x : Bool) (k : ℕ) → Inside l x k → values_in m t x k ≡ values_in l s x k
@@ -53,7 +53,7 @@ module _ (l : Layout) (so : Sound l) (s : List ℕ) (long : length s ≡ l.size)
   put_here w e =
       ap (bytes_at (put s (place_of l wide i) w) (place_of l wide i)) (sym e) ∙ read_back s (place_of l wide i) w (omega (arith, e, long, place_room l so wide i inside))
 
-  pub applied_beside : (c : Context) (b : List ℕ) → first_bad c b ≡ Done → bytes_of (scope_for c.usage) ≡ room_of wide → Beside l wide i s (applied (place_of l wide i) b (count_of b) s)
+  pub applied_beside : (c : Context) (b : List ℕ) → first_bad c b ≡ Ok tt → bytes_of (scope_for c.usage) ≡ room_of wide → Beside l wide i s (applied (place_of l wide i) b (count_of b) s)
   applied_beside c b d e x k h n =
       beside c (place_of l wide i) b d s (place_of l x k) (room_of x)
       (subst (λ (z : ℕ). Clear (place_of l wide i) z (place_of l x k) (room_of x)) (sym e) (places_apart l so wide i x k inside h n))
@@ -68,7 +68,7 @@ module _ (l m : Layout) (so : Sound l) (so' : Sound m) (within : Within l m) (s 
       (put_here m so' t long' wide i inside' w e ∙ sym (put_here l so s long wide i inside w e))
 
   -- the same buffer stored
-  pub values_applied : (c : Context) (b : List ℕ) → first_bad c b ≡ Done → bytes_of (scope_for c.usage) ≡ room_of wide
+  pub values_applied : (c : Context) (b : List ℕ) → first_bad c b ≡ Ok tt → bytes_of (scope_for c.usage) ≡ room_of wide
       → Values l m (applied (place_of l wide i) b (count_of b) s) (applied (place_of m wide i) b (count_of b) t)
   values_applied c b d e =
       let inside' = inside_more l m within wide i inside in

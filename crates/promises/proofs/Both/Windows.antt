@@ -20,7 +20,6 @@ use Rattle.elements.specs.Right.{bytes_of}
 use Rattle.rules.specs.declared.Context.{Context}
 use Rattle.rules.specs.Rules.{size_fits, scope_for}
 use Rattle.rules.proofs.Rules.{size_listed}
-use Rattle.gsb.specs.declared.Walked.TheVariants.{Done}
 use Rattle.gsb.specs.Message.{message}
 use Rattle.gsb.specs.Walk.{count_of, id_at, size_at, offset_at, first_bad}
 use Rattle.store.specs.Layout.{slot_bytes}
@@ -29,6 +28,7 @@ use Rattle.transfer.specs.Transfer.{value_at, put_from, put_as, applied, read_fr
 use Rattle.transfer.proofs.Named.{counted_good, element_within}
 use Rattle.exits.specs.Exits.{returned, element_of, valued, output_of}
 use Rattle.exits.proofs.Written.{all_fit, returned_fit}
+use Rattle.std.proofs.Common.{Ok}
 
 -- ---- a part of them, and a number among them
 module _ (base place n : ℕ) where
@@ -43,7 +43,7 @@ module _ (base place n : ℕ) where
   put_both s t e p v h = put_inside t place v p n h ∙ ap (λ (x : List ℕ). put x p v) e ∙ sym (put_inside s base v p n h)
 
 -- ---- an accepted buffer
-module _ (k : Context) (b : List ℕ) (d : first_bad k b ≡ Done) where
+module _ (k : Context) (b : List ℕ) (d : first_bad k b ≡ Ok tt) where
   abbrev room : ℕ
   room = bytes_of (scope_for k.usage)
 

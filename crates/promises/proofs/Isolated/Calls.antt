@@ -20,7 +20,6 @@ use Rattle.rules.specs.declared.Context.{Context}
 use Rattle.rules.specs.declared.Usage.{Usage}
 use Rattle.rules.specs.declared.Usage.TheVariants.{RunInput, Effect as InEffect}
 use Rattle.rules.specs.Rules.{scope_for}
-use Rattle.gsb.specs.declared.Walked.TheVariants.{Done}
 use Rattle.gsb.specs.Walk.{count_of, first_bad}
 use Rattle.handover.specs.Form.{form, values_of, taken}
 use Rattle.store.specs.declared.Layout.{Layout}
@@ -54,6 +53,7 @@ use Rattle.promises.proofs.Targets.{passed_first, named_tests, away_test, index_
 use Rattle.promises.proofs.Isolated.Same.{Paired, present, absent, SameFor, kept, gone, Agree}
 use Rattle.promises.proofs.Isolated.Stores.{Written, values_written, handed_written, handed_values, handed_mark, written_same}
 use Rattle.promises.proofs.Isolated.Begun.{made_same}
+use Rattle.std.proofs.Common.{Ok}
 
 -- ---- what the slots of a vCPU tell alike
 paired_leb : {l m : Layout} {s t : List ℕ} {j k : ℕ} → Paired l m s t j k → leb m.slots k ≡ leb l.slots j
@@ -153,7 +153,7 @@ module _ (l m : Layout) (so : Sound l) (so' : Sound m) (g : ℕ) (s t : List ℕ
     context_both : (usage : Usage) → context_of m t g usage ≡ context_of l s g usage
     context_both usage = rw (caps, pvr_both)
 
-    walked_both : (usage : Usage) (b : List ℕ) → first_bad (context_of l s g usage) b ≡ Done → first_bad (context_of m t g usage) b ≡ Done
+    walked_both : (usage : Usage) (b : List ℕ) → first_bad (context_of l s g usage) b ≡ Ok tt → first_bad (context_of m t g usage) b ≡ Ok tt
     walked_both usage b d = ap (λ (c : Context). first_bad c b) (context_both usage) ∙ d
 
     -- ---- an accepted buffer stored in stores x and y that have the same bytes there
@@ -161,7 +161,7 @@ module _ (l m : Layout) (so : Sound l) (so' : Sound m) (g : ℕ) (s t : List ℕ
       abbrev Window : List ℕ → List ℕ → Type 0
       Window x y = bytes_at y (base_of m t wide g vcpu) (room_of wide) ≡ bytes_at x (base_of l s wide g vcpu) (room_of wide)
 
-      stored_window : (x y : List ℕ) → Window x y → (usage : Usage) (b : List ℕ) → first_bad (context_of l s g usage) b ≡ Done → bytes_of (scope_for usage) ≡ room_of wide
+      stored_window : (x y : List ℕ) → Window x y → (usage : Usage) (b : List ℕ) → first_bad (context_of l s g usage) b ≡ Ok tt → bytes_of (scope_for usage) ≡ room_of wide
           → Window (applied (base_of l s wide g vcpu) b (count_of b) x) (applied (base_of m t wide g vcpu) b (count_of b) y)
       stored_window x y e usage b d r =
           subst (λ (n : ℕ). bytes_at (applied (base_of m t wide g vcpu) b (count_of b) y) (base_of m t wide g vcpu) n ≡ bytes_at (applied (base_of l s wide g vcpu) b (count_of b) x) (base_of l s wide g vcpu) n) r
@@ -339,10 +339,10 @@ module _ (l m : Layout) (so : Sound l) (so' : Sound m) (g : ℕ) (s t : List ℕ
         abbrev y : List ℕ
         y = applied base' given (count_of given) t
 
-        d : first_bad (context_of l s g RunInput) given ≡ Done
+        d : first_bad (context_of l s g RunInput) given ≡ Ok tt
         d = input_walked l s flags g vcpu input output effect exit p
 
-        k : first_bad (context_of l s g InEffect) effect ≡ Done
+        k : first_bad (context_of l s g InEffect) effect ≡ Ok tt
         k = effect_walked l s flags g vcpu input output effect exit p
 
         ran_window : Window false vcpu (ran_store base given effect s) (ran_store base' given effect t)

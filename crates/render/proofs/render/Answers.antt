@@ -16,8 +16,8 @@ push_first-first-requires c = (search (rules, long_enough), search (rules, short
 pub push_lines-then-requires : goal.push_lines-then-requires
 push_lines-then-requires c = (search (rules, long_enough), search (rules, short_enough), search rules)
 
-pub push_answer-end-requires : goal.push_answer-end-requires
-push_answer-end-requires c = (search (rules, long_enough), search rules)
+pub push_answer-requires : goal.push_answer-requires
+push_answer-requires c = (search (rules, long_enough), search rules)
 
 pub returns : goal.returns
 returns c = record { fact = search (rules, rendered_all); within = search rules }

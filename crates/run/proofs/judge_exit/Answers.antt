@@ -13,8 +13,8 @@ returns-then-bad_length c = search (rules, exit_length)
 pub first_bad-requires : goal.first_bad-requires
 first_bad-requires c = search (rules, long_enough)
 
-pub returns-in-Stopped : goal.returns-in-Stopped
-returns-in-Stopped c = search (rules, exit_bad)
+pub returns-in-Err : goal.returns-in-Err
+returns-in-Err c = search (rules, exit_bad)
 
-pub returns-in-Done : goal.returns-in-Done
-returns-in-Done c = search (rules, exit_done)
+pub returns-in-Ok : goal.returns-in-Ok
+returns-in-Ok c = search (rules, exit_done)

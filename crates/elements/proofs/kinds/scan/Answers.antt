@@ -5,7 +5,7 @@ use borrow.Author.Rules.{rules}
 use Rattle.elements.proofs.kinds.scan.Goals as goal
 
 pub loop-i-init : goal.loop-i-init
-loop-i-init c = (search rules, search rules, refl)
+loop-i-init c = (search rules, refl)
 
 pub returns-then-id-row : goal.returns-then-id-row
 returns-then-id-row c = search (rules, scan_below)
@@ -20,7 +20,7 @@ pub bytes_of-at-requires : goal.bytes_of-at-requires
 bytes_of-at-requires c = (range_upward c.loop-i.i c.row_at-row.result c.row_at-row.ensures (omega arith), range_light c.loop-i.i c.row_at-row.result c.row_at-row.ensures (omega arith))
 
 pub loop-i-preserved : goal.loop-i-preserved
-loop-i-preserved c = (search rules, search rules, search (rules, scan_next))
+loop-i-preserved c = (search rules, search (rules, scan_next))
 
 pub returns : goal.returns
 returns c = search (rules, scan_end)

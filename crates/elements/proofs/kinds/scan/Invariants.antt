@@ -5,7 +5,4 @@ use Prim.Native.Nat.{◌-◌, ◌*◌, ◌≤◌}
 use Rattle.elements.proofs.kinds.scan.Given as goal
 
 abbrev pub invariant-loop-i : goal.invariant-loop-i
-invariant-loop-i l = (l.i ≤ l.end) × (l.at ≤ 1024 * l.i) × (scanned (ranges_from (l.end - l.from) l.from) l.id 0 ≡ scanned (ranges_from (l.end - l.i) l.i) l.id l.at)
-
-abbrev pub decreases-loop-i : goal.decreases-loop-i
-decreases-loop-i l = l.end - l.i
+invariant-loop-i l = (l.at ≤ 1024 * l.i) × (scanned (ranges_from (l.end - l.from) l.from) l.id 0 ≡ scanned (ranges_from (l.end - l.i) l.i) l.id l.at)

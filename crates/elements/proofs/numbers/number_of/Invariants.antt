@@ -6,7 +6,4 @@ use Prim.Native.Nat.{◌-◌, ◌*◌, ◌≤◌}
 use Rattle.elements.proofs.numbers.number_of.Given as goal
 
 abbrev pub invariant-loop-i : goal.invariant-loop-i
-invariant-loop-i l = (l.i ≤ 16) × (l.n ≤ 65536 * l.i) × (number_of l.id ≡ counted (ranges_from (16 - l.i) l.i) l.id l.n)
-
-abbrev pub decreases-loop-i : goal.decreases-loop-i
-decreases-loop-i l = 16 - l.i
+invariant-loop-i l = (l.n ≤ 65536 * l.i) × (number_of l.id ≡ counted (ranges_from (16 - l.i) l.i) l.id l.n)

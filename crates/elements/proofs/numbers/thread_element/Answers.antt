@@ -6,7 +6,7 @@ use borrow.Author.Rules.{rules}
 use Rattle.elements.proofs.numbers.thread_element.Goals as goal
 
 pub loop-i-init : goal.loop-i-init
-loop-i-init c = (search rules, search rules, search rules, sym (element_told_lem _))
+loop-i-init c = (search rules, search rules, sym (element_told_lem _))
 
 pub many-n-requires : goal.many-n-requires
 many-n-requires c = range_upward c.loop-i.i c.row_at-row.result c.row_at-row.ensures (omega arith)
@@ -24,7 +24,7 @@ pub bytes_of-at-requires : goal.bytes_of-at-requires
 bytes_of-at-requires c = (range_upward c.loop-i.i c.row_at-row.result c.row_at-row.ensures (omega arith), range_light c.loop-i.i c.row_at-row.result c.row_at-row.ensures (omega arith))
 
 pub loop-i-preserved : goal.loop-i-preserved
-loop-i-preserved c = (search rules, search rules, search rules, search (rules, element_next))
+loop-i-preserved c = (search rules, search rules, search (rules, element_next))
 
 pub returns : goal.returns
 returns c = search (rules, element_end)

@@ -6,7 +6,4 @@ use Prim.Native.Nat.{◌-◌, ◌*◌, ◌≤◌}
 use Rattle.elements.proofs.numbers.thread_element.Given as goal
 
 abbrev pub invariant-loop-i : goal.invariant-loop-i
-invariant-loop-i l = (l.i ≤ 16) × (l.left ≤ l.e) × (l.at ≤ 1024 * l.i) × (thread_element l.e ≡ element_in (ranges_from (16 - l.i) l.i) l.left l.at)
-
-abbrev pub decreases-loop-i : goal.decreases-loop-i
-decreases-loop-i l = 16 - l.i
+invariant-loop-i l = (l.left ≤ l.e) × (l.at ≤ 1024 * l.i) × (thread_element l.e ≡ element_in (ranges_from (16 - l.i) l.i) l.left l.at)

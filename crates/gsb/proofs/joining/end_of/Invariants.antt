@@ -7,7 +7,4 @@ use Rattle.gsb.specs.Lookup.{framed}
 use Rattle.gsb.proofs.joining.end_of.Given as goal
 
 abbrev pub invariant-loop-i : goal.invariant-loop-i
-invariant-loop-i l = (l.i ≤ l.count) × (4 + 4 * l.i ≤ l.at) × (l.at ≤ length l.b) × (l.at ≡ offset_at l.b l.i) × (walk (framed l.b) l.count 0 4 ≡ walk (framed l.b) (l.count - l.i) l.i l.at)
-
-abbrev pub decreases-loop-i : goal.decreases-loop-i
-decreases-loop-i l = l.count - l.i
+invariant-loop-i l = (4 + 4 * l.i ≤ l.at) × (l.at ≤ length l.b) × (l.at ≡ offset_at l.b l.i) × (walk (framed l.b) l.count 0 4 ≡ walk (framed l.b) (l.count - l.i) l.i l.at)

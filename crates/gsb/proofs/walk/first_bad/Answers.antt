@@ -16,8 +16,8 @@ skip-here-requires c = (search rules, search rules, search (rules, reach_lent))
 pub walk-preserved : goal.walk-preserved
 walk-preserved c = (search rules, search (rules, good_inside), search (rules, skip_good))
 
-pub returns-then-count-index : goal.returns-then-count-index
-returns-then-count-index c = search (rules, skip_end)
+pub returns-then-count-here : goal.returns-then-count-here
+returns-then-count-here c = search (rules, skip_end)
 
 pub returns-in_default : goal.returns-in_default
 returns-in_default c = search (rules, skip_bad)

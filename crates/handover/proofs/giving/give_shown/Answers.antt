@@ -13,8 +13,8 @@ overflow_sub-e c = search (rules, digit_under)
 pub overflow_sub-e-in-loop-left : goal.overflow_sub-e-in-loop-left
 overflow_sub-e-in-loop-left c = search (rules, digit_before)
 
-pub place_in-place-requires : goal.place_in-place-requires
-place_in-place-requires c = (search rules, search (rules, digit_from), search rules)
+pub place_of-place-requires : goal.place_of-place-requires
+place_of-place-requires c = (search rules, search (rules, digit_from), search rules)
 
 pub overflow_add-base : goal.overflow_add-base
 overflow_add-base c = search (rules, shown_fits)

@@ -1,13 +1,10 @@
--- Rests on `all_right` and its counterparts.
-use borrow.Author.Rules.{rules}
-use Rattle.handover.proofs.Given.{not_open, values_wrong, all_right}
+-- Rests on `judged` and `not_open`.
+use mathlib.Core.Path.{◌∙◌}
+use Rattle.handover.proofs.Given.{not_open, judged}
 use Rattle.handover.proofs.judging.judge.Goals as goal
 
-pub returns-then-not-is_open : goal.returns-then-not-is_open
-returns-then-not-is_open c = search (rules, not_open)
+pub returns-then-is_open : goal.returns-then-is_open
+returns-then-is_open c = c.is_some.ensures ∙ judged _ _ _ c.is_open.ensures c.if-is_open.true c.requires.1 _ c.judge_values.ensures
 
-pub returns-in_default : goal.returns-in_default
-returns-in_default c = search (rules, values_wrong)
-
-pub returns : goal.returns
-returns c = search (rules, all_right)
+pub returns-else-is_open : goal.returns-else-is_open
+returns-else-is_open c = c.if-is_open.false ∙ not_open _ _ _ c.is_open.ensures c.if-is_open.false

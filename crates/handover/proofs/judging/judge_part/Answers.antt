@@ -1,5 +1,5 @@
 use borrow.Author.Rules.{rules}
-use Rattle.handover.proofs.Counts.{count_index, place_start, solid_start, count_fits, count_add, count_upto, count_under, count_short, count_next, value_room, here_fits, count_turn, count_bad, count_end}
+use Rattle.handover.proofs.Counts.{place_start, solid_start, count_fits, count_add, count_upto, count_under, count_short, count_next, value_room, here_fits, count_turn, count_bad, count_end}
 use Rattle.handover.proofs.judging.judge_part.Goals as goal
 
 pub overflow_cast-shown : goal.overflow_cast-shown
@@ -8,8 +8,8 @@ overflow_cast-shown c = search (rules, count_fits)
 pub overflow_add-from : goal.overflow_add-from
 overflow_add-from c = search (rules, count_add)
 
-pub place_in-requires : goal.place_in-requires
-place_in-requires c = (search rules, search rules, search (rules, count_upto))
+pub place_of-requires : goal.place_of-requires
+place_of-requires c = (search rules, search rules, search (rules, count_upto))
 
 pub overflow_sub-long : goal.overflow_sub-long
 overflow_sub-long c = search (rules, count_under)
@@ -28,9 +28,6 @@ returns-then-is_zero c = search (rules, count_bad)
 
 pub overflow_add-here : goal.overflow_add-here
 overflow_add-here c = search (rules, here_fits)
-
-pub overflow_add-i : goal.overflow_add-i
-overflow_add-i c = search (rules, count_index)
 
 pub loop-i-preserved : goal.loop-i-preserved
 loop-i-preserved c = (search rules, search (rules, count_next), search (rules, count_turn))

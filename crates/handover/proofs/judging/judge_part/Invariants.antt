@@ -8,7 +8,4 @@ use Rattle.handover.proofs.judging.judge_part.Given as goal
 
 abbrev pub invariant-loop-i : goal.invariant-loop-i
 invariant-loop-i l =
-    (l.i ≤ ones l.m) × (l.here + place l.from ≡ l.at + place (l.from + l.i)) × (solid l.b l.size (ones l.m) l.at ≡ solid l.b l.size (ones l.m - l.i) l.here)
-
-abbrev pub decreases-loop-i : goal.decreases-loop-i
-decreases-loop-i l = ones l.m - l.i
+    (l._i ≤ ones l.m) × (l.here + place l.from ≡ l.at + place (l.from + l._i)) × (solid l.b l.size (ones l.m) l.at ≡ solid l.b l.size (ones l.m - l._i) l.here)

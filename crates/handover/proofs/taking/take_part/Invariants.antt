@@ -9,9 +9,6 @@ use Rattle.handover.proofs.taking.take_part.Given as goal
 
 abbrev pub invariant-loop-e : goal.invariant-loop-e
 invariant-loop-e l =
-    (l.from ≤ l.e) × (l.e ≤ l.to) × (l.here ≡ l.base + place l.e) × (length l.buffer ≡ length l.initial.buffer) × Room l.e l.to l.so_far (length l.initial.buffer)
-    × (written l.initial.so_far (state_at l.store l.base) l.from (l.to - l.from) ≡ written l.so_far (state_at l.store l.base) l.e (l.to - l.e))
-    × (put l.initial.buffer l.initial.so_far.at (body (state_at l.store l.base) l.from (l.to - l.from)) ≡ put l.buffer l.so_far.at (body (state_at l.store l.base) l.e (l.to - l.e)))
-
-abbrev pub decreases-loop-e : goal.decreases-loop-e
-decreases-loop-e l = l.to - l.e
+    (l.from ≤ l._e) × (l.here ≡ l.base + place l._e) × (length l.buffer ≡ length l.initial.buffer) × Room l._e l.to l.so_far (length l.initial.buffer)
+    × (written l.initial.so_far (state_at l.store l.base) l.from (l.to - l.from) ≡ written l.so_far (state_at l.store l.base) l._e (l.to - l._e))
+    × (put l.initial.buffer l.initial.so_far.at (body (state_at l.store l.base) l.from (l.to - l.from)) ≡ put l.buffer l.so_far.at (body (state_at l.store l.base) l._e (l.to - l._e)))

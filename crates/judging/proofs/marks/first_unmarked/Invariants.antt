@@ -1,12 +1,9 @@
--- The invariant is what is left of the row and of the marks.
-use Rattle.judging.specs.Private.{ids_in, unmarked}
+-- The invariant is what is left of the IDs and of the marks.
+use Rattle.judging.specs.Private.{unmarked}
 use lib.ListN.{drop}
+use Prim.Native.Nat.{◌/◌, ◌^◌}
 use mathlib.Core.Path.{◌≡◌}
-use Prim.Native.Nat.{◌-◌, ◌≤◌}
 use Rattle.judging.proofs.marks.first_unmarked.Given as goal
 
 abbrev pub invariant-loop-j : goal.invariant-loop-j
-invariant-loop-j l = (l.j ≤ l.many) × (unmarked (ids_in l.row) l.seen ≡ unmarked (drop l.j (ids_in l.row)) l.left)
-
-abbrev pub decreases-loop-j : goal.decreases-loop-j
-decreases-loop-j l = l.many - l.j
+invariant-loop-j l = unmarked l.ids l.seen ≡ unmarked (drop l.j l.ids) (l.seen / 2 ^ l.j)

@@ -1,5 +1,5 @@
 -- By how far the tests came: the laws `convert-..` of Answers.
-use Rattle.store.proofs.Sizes.{known_small, known_large, known_within, small_told}
+use Rattle.store.proofs.Sizes.{known_within, small_told}
 use Rattle.l0.proofs.Answers.{convert_other, convert_store, source_formed, convert_length, convert_made}
 use Rattle.std.proofs.Common.{rules}
 use mathlib.Core.Bool.{not}
@@ -19,7 +19,7 @@ pub returns-then-target-m : goal.returns-then-target-m
 returns-then-target-m c = search (rules, convert_length)
 
 pub converted-requires : goal.converted-requires
-converted-requires c = (search (rules, known_small), search (rules, known_large), search (rules, known_within), source_formed _ _ _ c.well_formed-2.ensures (ap not c.if-not-well_formed.false), search rules)
+converted-requires c = (search (rules, known_within), source_formed _ _ _ c.well_formed-2.ensures (ap not c.if-not-well_formed.false), search rules)
 
 pub returns : goal.returns
 returns c = search (rules, convert_made)

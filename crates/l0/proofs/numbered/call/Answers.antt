@@ -3,29 +3,29 @@ use Rattle.std.proofs.Common.{rules}
 use Rattle.l0.proofs.ByNumber.{call_get_capabilities, call_set_capabilities, call_create_guest, call_create_vcpu, call_get_state, call_set_state, call_run, call_delete, call_other}
 use Rattle.l0.proofs.numbered.call.Goals as goal
 
-pub returns-in-1 : goal.returns-in-1
-returns-in-1 c = search (rules, call_get_capabilities)
+pub returns-in-Some-GetCapabilities : goal.returns-in-Some-GetCapabilities
+returns-in-Some-GetCapabilities c = search (rules, call_get_capabilities)
 
-pub returns-in-2 : goal.returns-in-2
-returns-in-2 c = search (rules, call_set_capabilities)
+pub returns-in-Some-SetCapabilities : goal.returns-in-Some-SetCapabilities
+returns-in-Some-SetCapabilities c = search (rules, call_set_capabilities)
 
-pub returns-in-3 : goal.returns-in-3
-returns-in-3 c = search (rules, call_create_guest)
+pub returns-in-Some-CreateGuest : goal.returns-in-Some-CreateGuest
+returns-in-Some-CreateGuest c = search (rules, call_create_guest)
 
-pub returns-in-4 : goal.returns-in-4
-returns-in-4 c = search (rules, call_create_vcpu)
+pub returns-in-Some-CreateVcpu : goal.returns-in-Some-CreateVcpu
+returns-in-Some-CreateVcpu c = search (rules, call_create_vcpu)
 
-pub returns-in-5 : goal.returns-in-5
-returns-in-5 c = search (rules, call_get_state)
+pub returns-in-Some-GetState : goal.returns-in-Some-GetState
+returns-in-Some-GetState c = search (rules, call_get_state)
 
-pub returns-in-6 : goal.returns-in-6
-returns-in-6 c = search (rules, call_set_state)
+pub returns-in-Some-SetState : goal.returns-in-Some-SetState
+returns-in-Some-SetState c = search (rules, call_set_state)
 
-pub returns-in-7 : goal.returns-in-7
-returns-in-7 c = search (rules, call_run)
+pub returns-in-Some-RunVcpu : goal.returns-in-Some-RunVcpu
+returns-in-Some-RunVcpu c = search (rules, call_run)
 
-pub returns-in-8 : goal.returns-in-8
-returns-in-8 c = search (rules, call_delete)
+pub returns-in-Some-DeleteGuest : goal.returns-in-Some-DeleteGuest
+returns-in-Some-DeleteGuest c = search (rules, call_delete)
 
-pub returns-in_default : goal.returns-in_default
-returns-in_default c = search (rules, call_other)
+pub returns-in-None : goal.returns-in-None
+returns-in-None c = search (rules, call_other)

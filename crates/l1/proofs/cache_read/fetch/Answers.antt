@@ -10,7 +10,7 @@ pub returns-then-not-is_accepted : goal.returns-then-not-is_accepted
 returns-then-not-is_accepted c = search (rules, fetch_refused)
 
 pub keep_value-requires : goal.keep_value-requires
-keep_value-requires c = (search (rules, read_within), search rules, search rules, search rules)
+keep_value-requires c = (search (rules, read_within), search rules)
 
 pub returns : goal.returns
 returns c = search fetch_kept

@@ -4,7 +4,7 @@ use borrow.Author.Rules.{rules}
 use Rattle.l1.proofs.cache_read.read_value.Goals as goal
 
 pub is_marked-requires : goal.is_marked-requires
-is_marked-requires c = (search rules, search (rules, mark_below))
+is_marked-requires c = search (rules, mark_below)
 
 pub returns-then-not-is_marked : goal.returns-then-not-is_marked
 returns-then-not-is_marked c = search (rules, value_fetched)

@@ -4,13 +4,13 @@ use borrow.Author.Rules.{rules}
 use Rattle.l1.proofs.marks.mark_from.Goals as goal
 
 pub loop-i-init : goal.loop-i-init
-loop-i-init c = (search rules, search rules, search rules, refl)
+loop-i-init c = refl
 
 pub returns-then-word-ne0 : goal.returns-then-word-ne0
-returns-then-word-ne0 c = search (rules, from_hit, (c.type_inv.m c.loop-i.i).fits)
+returns-then-word-ne0 c = search (rules, from_hit)
 
 pub loop-i-preserved : goal.loop-i-preserved
-loop-i-preserved c = (search rules, search rules, search rules, search (rules, from_miss, (c.type_inv.m c.loop-i.i).fits))
+loop-i-preserved c = search (rules, from_miss)
 
 pub returns : goal.returns
 returns c = search (rules, from_end)

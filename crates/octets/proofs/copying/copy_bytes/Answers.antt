@@ -2,14 +2,11 @@ use mathlib.Core.Path.{refl}
 use native.Mathlib.Omega.{arith}
 use lib.ListN.{length-set}
 use borrow.Author.Rules.{rules}
-use Rattle.octets.proofs.Bytes.{copy_none, copy_more, copy_all}
+use Rattle.octets.proofs.Bytes.{copy_none, copy_more}
 use Rattle.octets.proofs.copying.copy_bytes.Goals as goal
 
 pub loop-i-init : goal.loop-i-init
-loop-i-init c = (search rules, refl, copy_none _ _ _ _)
+loop-i-init c = (refl, copy_none _ _ _ _)
 
 pub loop-i-preserved : goal.loop-i-preserved
-loop-i-preserved c = (search rules, simp length-set (omega arith), search (rules, copy_more))
-
-pub returns : goal.returns
-returns c = search (rules, copy_all)
+loop-i-preserved c = (simp length-set (omega arith), search (rules, copy_more))

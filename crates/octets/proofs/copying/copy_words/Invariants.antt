@@ -1,4 +1,4 @@
--- The loop has copied i bytes, and `copy_number_more` adds a word to them: the bytes of the number that bytes make are those bytes.
+-- The loop has copied i bytes, and `copy_part` adds a word to them.
 use Prim.Native.Nat.{◌-◌, ◌≤◌}
 use mathlib.Core.Path.{◌≡◌}
 use lib.ListN.{length}

@@ -1,6 +1,8 @@
 -- A window's records, its last line and what is kept of it: `window_all`.
 use native.Mathlib.Omega.{arith}
 use Rattle.records.proofs.Finished.{first_count, window_all}
+use Rattle.records.proofs.Windows.{kept}
+use Rattle.std.proofs.Common.{◌∙◌}
 use borrow.Author.Rules.{rules}
 use Rattle.records.proofs.playing.replay_window.Goals as goal
 
@@ -28,20 +30,6 @@ push_end-written-requires c =
     let n = first_count a.window.now a.filled r.within in
     omega (arith, n, r.room, c.play_all-s.ensures.at_in_bounds.0, c.play_all-s.ensures.at_in_bounds.1)
 
-pub overflow_sub-filled : goal.overflow_sub-filled
-overflow_sub-filled c =
-    let a = c.args in
-    let r = c.requires.0 in
-    let n = first_count a.window.now a.filled r.within in
-    omega (arith, n, c.play_all-s.ensures.at_in_bounds.0)
-
-pub keep-requires : goal.keep-requires
-keep-requires c =
-    let a = c.args in
-    let r = c.requires.0 in
-    let n = first_count a.window.now a.filled r.within in
-    omega (arith, n, r.within, c.play_all-s.ensures.at_in_bounds.0)
-
 pub overflow_sub-result : goal.overflow_sub-result
 overflow_sub-result c =
     let a = c.args in
@@ -52,6 +40,6 @@ overflow_sub-result c =
 pub returns : goal.returns
 returns c = let r = c.requires.0 in record {
   fact = window_all _ _ _ _ _ _ _ _ _ _ _ _ _ _ _ _ c.play_all-s.ensures.fact r.within c.play_all-s.ensures.at_in_bounds.0
-      c.is_stop-stops.ensures c.push_end-written.ensures.0 c.keep.ensures c.is_open.ensures;
+      c.is_stop-stops.ensures c.push_end-written.ensures.0 (c.copy_within.ensures.after ∙ kept _ _ _ c.play_all-s.ensures.at_in_bounds.0 r.within) (search rules);
   kept_in_bounds = (omega (arith, r.within), c.push_end-written.ensures.1);
 }

@@ -4,10 +4,10 @@ use borrow.Author.Rules.{rules}
 use Rattle.store.proofs.conversion.copy_lives.Goals as goal
 
 pub loop-g-init : goal.loop-g-init
-loop-g-init c = (search rules, refl, lives_none _ _ _)
+loop-g-init c = (refl, lives_none _ _ _)
 
 pub loop-g-preserved : goal.loop-g-preserved
-loop-g-preserved c = (search rules, search rules, search (rules, lives_more))
+loop-g-preserved c = (search rules, search (rules, lives_more))
 
 pub returns : goal.returns
 returns c = search (rules, lives_all)

@@ -9,5 +9,5 @@ returns-then-w-l c = (search (rules, recode_none), search (rules, some_ids))
 pub overflow_add-result : goal.overflow_add-result
 overflow_add-result c = search (rules, recode_room)
 
-pub returns : goal.returns
-returns c = (search (rules, recode_some), search (rules, recode_small))
+pub returns-else-w-l : goal.returns-else-w-l
+returns-else-w-l c = (search (rules, recode_some), search (rules, recode_small))

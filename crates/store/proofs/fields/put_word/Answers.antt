@@ -10,12 +10,6 @@ overflow_cast-w c = record { fits = search (rules, pair_fits) }
 pub returns-then-l-eq16 : goal.returns-then-l-eq16
 returns-then-l-eq16 c = search (rules, pair_put)
 
-pub overflow_mul-l-2 : goal.overflow_mul-l-2
-overflow_mul-l-2 c = search (rules, times_fits)
-
-pub overflow_add-l-2 : goal.overflow_add-l-2
-overflow_add-l-2 c = search (rules, place_fits)
-
 pub put_bits-requires : goal.put_bits-requires
 put_bits-requires c = (search (rules, word_room), search rules, search (rules, word_fits))
 

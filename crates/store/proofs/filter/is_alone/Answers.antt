@@ -1,15 +1,9 @@
 use borrow.Author.Rules.{rules}
-use Rattle.store.proofs.Filtered.{alone_start_lem, alone_hit, alone_miss, alone_end}
+use borrow.Author.Tests.{tests}
+use Rattle.store.specs.Header.{header, lacks, alone}
+use Rattle.store.proofs.Ranges.{told_all}
 use Rattle.store.proofs.filter.is_alone.Goals as goal
 
-pub loop-b-init : goal.loop-b-init
-loop-b-init c = (search rules, alone_start_lem _ _ _ _)
-
-pub returns-then-slot_word-w : goal.returns-then-slot_word-w
-returns-then-slot_word-w c = search (rules, alone_hit)
-
-pub loop-b-preserved : goal.loop-b-preserved
-loop-b-preserved c = (search rules, search (rules, alone_miss))
-
 pub returns : goal.returns
-returns c = search (rules, alone_end)
+unfolding alone lacks
+returns c = told_all (lacks c.args.l (header c.args.l c.args.s.now) c.args.w) c.args.a 0 _ _ _ _ (search rules) (λ x b q k. search (rules, tests)) c.all.ensures.ran

@@ -1,13 +1,10 @@
 -- The invariant: the test that is left, and that every used word before it has its bit (`Noted`).
 use mathlib.Core.Path.{◌≡◌}
-use Prim.Native.Nat.{◌-◌, ◌≤◌}
+use Prim.Native.Nat.{◌-◌}
 use Rattle.store.specs.Search.{every}
 use Rattle.store.specs.Header.{header, slot_good, words_good}
 use Rattle.store.specs.Filter.{Noted}
 use Rattle.store.proofs.filter.words_filtered.Given as goal
 
 abbrev pub invariant-loop-a : goal.invariant-loop-a
-invariant-loop-a l = (l.a ≤ l.l.slots) × (words_good l.l (header l.l l.s) ≡ every (slot_good l.l (header l.l l.s)) (l.l.slots - l.a) l.a) × Noted l.l (header l.l l.s) l.seen l.a
-
-abbrev pub decreases-loop-a : goal.decreases-loop-a
-decreases-loop-a l = l.l.slots - l.a
+invariant-loop-a l = (words_good l.l (header l.l l.s) ≡ every (slot_good l.l (header l.l l.s)) (l.l.slots - l.a) l.a) × Noted l.l (header l.l l.s) l.seen l.a

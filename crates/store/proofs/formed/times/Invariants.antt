@@ -1,12 +1,9 @@
 -- The invariant is the count so far: the laws `times-..` of Loops.
+use Prim.Native.Nat.{◌≤◌}
 use mathlib.Core.Path.{◌≡◌}
-use Prim.Native.Nat.{◌-◌, ◌≤◌}
 use Rattle.store.specs.Search.{tally}
 use Rattle.store.specs.Header.{header, holds}
 use Rattle.store.proofs.formed.times.Given as goal
 
 abbrev pub invariant-loop-b : goal.invariant-loop-b
-invariant-loop-b l = (l.b ≤ l.l.slots) × (l.n ≡ tally (holds l.l (header l.l l.s) l.w) l.b) × (l.n ≤ l.b)
-
-abbrev pub decreases-loop-b : goal.decreases-loop-b
-decreases-loop-b l = l.l.slots - l.b
+invariant-loop-b l = (l.n ≡ tally (holds l.l (header l.l l.s) l.w) l.b) × (l.n ≤ l.b)

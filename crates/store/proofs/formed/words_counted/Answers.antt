@@ -1,15 +1,11 @@
-use Rattle.store.proofs.Loops.{words_start, words_bad, words_turn, words_end}
+-- The test of each slot, counted: `words_counted`.
+use mathlib.Core.Path.{sym, ◌∙◌}
 use borrow.Author.Rules.{rules}
+use Rattle.store.specs.Header.{header}
+use Rattle.store.specs.Private.{slot_counted}
+use Rattle.store.proofs.Counted.{words_counted}
+use Rattle.store.proofs.Ranges.{told_all}
 use Rattle.store.proofs.formed.words_counted.Goals as goal
 
-pub loop-a-init : goal.loop-a-init
-loop-a-init c = (search rules, words_start _ _)
-
-pub returns-then-not-slot_counted : goal.returns-then-not-slot_counted
-returns-then-not-slot_counted c = search (rules, words_bad)
-
-pub loop-a-preserved : goal.loop-a-preserved
-loop-a-preserved c = (search rules, search (rules, words_turn))
-
 pub returns : goal.returns
-returns c = search (rules, words_end)
+returns c = told_all (slot_counted c.args.l (header c.args.l c.args.s.now)) c.args.l.slots 0 _ _ _ _ (search rules) (λ x b q k. search rules) c.all.ensures.ran ∙ sym (words_counted c.args.l (header c.args.l c.args.s.now))

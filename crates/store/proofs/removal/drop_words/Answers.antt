@@ -4,10 +4,10 @@ use borrow.Author.Rules.{rules}
 use Rattle.store.proofs.removal.drop_words.Goals as goal
 
 pub loop-a-init : goal.loop-a-init
-loop-a-init c = (search rules, refl, drop_start _ _ _)
+loop-a-init c = (refl, drop_start _ _ _)
 
 pub loop-a-preserved : goal.loop-a-preserved
-loop-a-preserved c = (search rules, search rules, search (rules, drop_turn))
+loop-a-preserved c = (search rules, search (rules, drop_turn))
 
 pub returns : goal.returns
 returns c = search (rules, drop_end)

@@ -1,15 +1,9 @@
-use Rattle.store.proofs.Loops.{alive_start, alive_hit, alive_miss, alive_end}
 use borrow.Author.Rules.{rules}
+use borrow.Author.Tests.{tests}
+use Rattle.store.specs.Header.{header, live, is_dead, any_live}
+use Rattle.store.proofs.Ranges.{told_any}
 use Rattle.store.proofs.slots.any_live.Goals as goal
 
-pub loop-g-init : goal.loop-g-init
-loop-g-init c = (search rules, search rules, alive_start _ _)
-
-pub returns-then-is_live : goal.returns-then-is_live
-returns-then-is_live c = search (rules, alive_hit)
-
-pub loop-g-preserved : goal.loop-g-preserved
-loop-g-preserved c = (search rules, search rules, search (rules, alive_miss))
-
 pub returns : goal.returns
-returns c = search (rules, alive_end)
+unfolding any_live is_dead
+returns c = told_any (live c.args.l (header c.args.l c.args.s.now)) c.args.l.guests 1 _ _ _ _ (search rules) (λ x b q k. search (rules, tests)) c.any.ensures.ran

@@ -8,5 +8,5 @@ use Rattle.store.proofs.slots.free_slot.Goals as goal
 pub slot_holding-requires : goal.slot_holding-requires
 slot_holding-requires c = (search rules, search rules, omega (arith, (sized_sound _ _ c.requires.0).nameable))
 
-pub returns : goal.returns
-returns c = (search (rules, free_is), search rules)
+pub returns-clause-slot : goal.returns-clause-slot
+returns-clause-slot c = search (rules, free_is)

@@ -1,15 +1,10 @@
 use borrow.Author.Rules.{rules}
-use Rattle.store.proofs.Loops.{find_start, find_hit, find_miss, find_end}
+use Rattle.store.specs.Header.{header, holds, slot_holding}
+use Rattle.store.proofs.Ranges.{told_find}
 use Rattle.store.proofs.slots.pair_holding.Goals as goal
 
-pub loop-i-init : goal.loop-i-init
-loop-i-init c = (search rules, find_start _ _ _)
-
-pub returns-then-holds_pair : goal.returns-then-holds_pair
-returns-then-holds_pair c = (search (rules, find_hit), search rules)
-
-pub loop-i-preserved : goal.loop-i-preserved
-loop-i-preserved c = (search rules, search (rules, find_miss))
-
 pub returns : goal.returns
-returns c = (search (rules, find_end), search rules)
+unfolding slot_holding
+returns c =
+    let r = told_find (holds c.args.l (header c.args.l c.args.s.now) c.args.w) c.args.l.slots 0 _ _ _ _ (search rules) (λ x b q k. search rules) c.find.ensures.ran in
+    search rules

@@ -3,8 +3,8 @@ use Rattle.tally.proofs.ByAnswer.{get_wide, get_thread_lem}
 use borrow.Author.Rules.{rules}
 use Rattle.tally.proofs.changes.get_change.Goals as goal
 
-pub returns-then-flags-eq1 : goal.returns-then-flags-eq1
-returns-then-flags-eq1 c = search (rules, get_wide)
+pub returns-then-is_wide : goal.returns-then-is_wide
+returns-then-is_wide c = search (rules, get_wide)
 
 pub returns : goal.returns
 returns c = search (rules, get_thread_lem)

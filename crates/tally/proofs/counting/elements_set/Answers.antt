@@ -6,13 +6,13 @@ pub returns-then-b-lt4 : goal.returns-then-b-lt4
 returns-then-b-lt4 c = search (rules, in_short)
 
 pub loop-i-init : goal.loop-i-init
-loop-i-init c = (search rules, search rules, search rules, search rules, search rules, search rules, count_start _ _)
+loop-i-init c = (search rules, search rules, search rules, search rules, search rules, count_start _ _)
 
 pub returns-then-b-at : goal.returns-then-b-at
 returns-then-b-at c = search (rules, count_cut)
 
 pub loop-i-preserved : goal.loop-i-preserved
-loop-i-preserved c = (search rules, search rules, search rules, search rules, search rules, search rules, search (rules, count_more))
+loop-i-preserved c = (search rules, search rules, search rules, search rules, search rules, search (rules, count_more))
 
 pub returns : goal.returns
 returns c = search (rules, count_done)

@@ -1,5 +1,5 @@
 -- A loop with what is left as its invariant: the laws `count-..` of Counted.
-use Prim.Native.Nat.{◌+◌, ◌-◌, ◌<◌, ◌≤◌, ◌^◌}
+use Prim.Native.Nat.{◌+◌, ◌<◌, ◌≤◌, ◌^◌}
 use mathlib.Core.Path.{◌≡◌}
 use lib.ListN.{length}
 use Rattle.gsb.specs.Walk.{count_of}
@@ -7,7 +7,4 @@ use Rattle.tally.proofs.Counted.{Left}
 use Rattle.tally.proofs.counting.elements_set.Given as goal
 
 abbrev pub invariant-loop-i : goal.invariant-loop-i
-invariant-loop-i l = (l.i ≤ l.count) × (l.total ≤ l.i) × (l.at ≤ length l.b + 65539) × (l.count < 2 ^ 32) × (l.count ≡ count_of l.b) × (4 ≤ length l.b) × Left l.b l.count l.at l.i l.total
-
-abbrev pub decreases-loop-i : goal.decreases-loop-i
-decreases-loop-i l = l.count - l.i
+invariant-loop-i l = (l.total ≤ l._i) × (l.at ≤ length l.b + 65539) × (l.count < 2 ^ 32) × (l.count ≡ count_of l.b) × (4 ≤ length l.b) × Left l.b l.count l.at l._i l.total

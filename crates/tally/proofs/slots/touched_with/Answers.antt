@@ -1,26 +1,23 @@
 -- Each arm is a line of the table: the laws `touch-..` of ByKind.
-use Rattle.store.proofs.Sizes.{sized_sound}
-use Rattle.tally.proofs.ByKind.{touch_create, touch_get, touch_set, touch_run, touch_delete, touch_other}
+use Rattle.tally.proofs.ByKind.{touch_create, touch_named, touch_delete, touch_early, touch_other}
+use Rattle.tally.specs.Private.{touched_by}
 use borrow.Author.Rules.{rules}
 use Rattle.tally.proofs.slots.touched_with.Goals as goal
 
-pub dropped_slots-requires : goal.dropped_slots-requires
-dropped_slots-requires c = search (rules, sized_sound)
+pub returns-in-Some-CreateVcpu : goal.returns-in-Some-CreateVcpu
+returns-in-Some-CreateVcpu c = search (rules, touch_create)
 
-pub returns-in-4 : goal.returns-in-4
-returns-in-4 c = search (rules, touch_create)
+pub returns-in-Some-GetState : goal.returns-in-Some-GetState
+unfolding touched_by
+returns-in-Some-GetState c = search (rules, touch_named)
 
-pub returns-in-5 : goal.returns-in-5
-returns-in-5 c = search (rules, touch_get)
+pub returns-in-Some-DeleteGuest : goal.returns-in-Some-DeleteGuest
+returns-in-Some-DeleteGuest c = search (rules, touch_delete)
 
-pub returns-in-6 : goal.returns-in-6
-returns-in-6 c = search (rules, touch_set)
+pub returns-in-Some-GetCapabilities : goal.returns-in-Some-GetCapabilities
+unfolding touched_by
+returns-in-Some-GetCapabilities c = search (rules, touch_early)
 
-pub returns-in-7 : goal.returns-in-7
-returns-in-7 c = search (rules, touch_run)
-
-pub returns-in-8 : goal.returns-in-8
-returns-in-8 c = search (rules, touch_delete)
-
-pub returns-in_default : goal.returns-in_default
-returns-in_default c = search (rules, touch_other)
+pub returns-in-Some-GetCapabilities-2 : goal.returns-in-Some-GetCapabilities-2
+unfolding touched_by
+returns-in-Some-GetCapabilities-2 c = search (rules, touch_other)

@@ -16,4 +16,4 @@ pub overflow_add-result : goal.overflow_add-result
 overflow_add-result c = search (rules, its_end)
 
 pub returns : goal.returns
-returns c = (search (rules, its_next), search (rules, its_filled))
+returns c = (search (rules, its_next), its_filled _ _ _ _ _ c.in-Some.x c.get16.ensures c.in-Some.ensures c.requires _ _ c.copy.ensures)

@@ -1,5 +1,5 @@
 -- What is sent can be stored, and the output can be kept (`part_ready`, `out_keeps`, `send_left`).
-use Rattle.l1.proofs.Running.{send_long, send_six, part_ready, effect_after, out_keeps, send_left}
+use Rattle.l1.proofs.Running.{part_ready, effect_after, out_keeps, send_left}
 use borrow.Author.Rules.{rules}
 use Rattle.l1.proofs.flush.cache_run.send.Goals as goal
 
@@ -10,7 +10,7 @@ pub apply-requires-2 : goal.apply-requires-2
 apply-requires-2 c = search (rules, effect_after)
 
 pub refresh-requires : goal.refresh-requires
-refresh-requires c = (search (rules, send_long), search (rules, send_six), search (rules, out_keeps))
+refresh-requires c = search (rules, out_keeps)
 
 pub returns : goal.returns
-returns c = send_left _ _ _ _ _ _ _ _ _ c.requires _ c.put_input.ensures _ c.first_bytes.ensures _ _ _ c.apply.ensures c.apply-2.ensures c.put_output.ensures _ _ _ c.refresh.ensures c.success.ensures
+returns c = send_left _ _ _ _ _ _ _ _ _ c.requires _ c.put_input.ensures _ c.first_bytes.ensures _ _ _ c.apply.ensures c.apply-2.ensures c.put_output.ensures _ _ c.refresh.ensures

@@ -13,7 +13,7 @@ pub copy_value-requires : goal.copy_value-requires
 copy_value-requires c = (search (rules, keep_sized), search (rules, keep_from), search (rules, keep_to))
 
 pub set_mark-requires : goal.set_mark-requires
-set_mark-requires c = (search rules, search (rules, keep_number))
+set_mark-requires c = search (rules, keep_number)
 
 pub overflow_add-result : goal.overflow_add-result
 overflow_add-result c = search (rules, header_fits)

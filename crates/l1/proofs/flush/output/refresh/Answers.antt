@@ -7,13 +7,13 @@ pub get32-count-requires : goal.get32-count-requires
 get32-count-requires c = search (rules, keeps_long)
 
 pub loop-i-init : goal.loop-i-init
-loop-i-init c = (search rules, offset_start _, search rules, search rules, search (rules, keeps_start))
+loop-i-init c = (offset_start _, search (rules, keeps_start))
 
 pub keep_element-at-requires : goal.keep_element-at-requires
-keep_element-at-requires c = (search rules, search rules, search (rules, keeps_at))
+keep_element-at-requires c = search (rules, keeps_at)
 
 pub loop-i-preserved : goal.loop-i-preserved
-loop-i-preserved c = (search rules, search (rules, next_offset), search rules, search rules, search (rules, keeps_turn, keeps_at))
+loop-i-preserved c = (search (rules, next_offset), search (rules, keeps_turn, keeps_at))
 
 pub returns : goal.returns
 returns c = search (rules, keeps_end)

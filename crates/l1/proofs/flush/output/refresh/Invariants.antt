@@ -3,12 +3,7 @@ use Rattle.l1.proofs.Refreshing.{kept_upto}
 use Rattle.gsb.specs.Walk.{offset_at}
 use Rattle.l1.specs.Marks.{Cache}
 use mathlib.Core.Path.{◌≡◌}
-use Prim.Native.Nat.{◌-◌, ◌≤◌}
-use lib.ListN.{length}
 use Rattle.l1.proofs.flush.output.refresh.Given as goal
 
 abbrev pub invariant-loop-i : goal.invariant-loop-i
-invariant-loop-i l = (l.i ≤ l.count) × (l.at ≡ offset_at l.output l.i) × (length l.values ≡ length l.initial.values) × (length l.marks ≡ length l.initial.marks) × (◌≡◌ {A = Cache} (record { values = l.values; marks = l.marks }) (kept_upto l.output l.initial.values l.i))
-
-abbrev pub decreases-loop-i : goal.decreases-loop-i
-decreases-loop-i l = l.count - l.i
+invariant-loop-i l = (l.at ≡ offset_at l.output l._i) × (◌≡◌ {A = Cache} (record { values = l.values; marks = l.marks }) (kept_upto l.output l.initial.values l._i))
