@@ -32,6 +32,7 @@ fn reach(b: &[u8], usage: Usage) -> usize
 
 // The registers but PPR, which every use of a vCPU permits and no value rule names, and an empty NOP: good by one read if they lie
 // well within `room`, which is `reach`, and on the guest's list, which has all vectors. `None` is no verdict: it leaves them to `judge`.
+// The list before PPR: so the compiler tests a bit for each ID, where it else makes a comparison with each of the list's rows.
 fn quick(b: &[u8], at: usize, room: usize, offer: Offer) -> Option<usize>
     requires { (at ≤ length b.now) × (room ≤ length b.now) }
     ensures { QuickVerdict result room offer b.now at }
@@ -41,10 +42,10 @@ fn quick(b: &[u8], at: usize, room: usize, offer: Offer) -> Option<usize>
     }
     let key = get_turned(b, at) as usize;
     if is_register(8, key) {
-        if key == 0x8_103A {
+        if !is_offered(offer, (key % 65536) as u16) {
             return None;
         }
-        if !is_offered(offer, (key % 65536) as u16) {
+        if key == 0x8_103A {
             return None;
         }
         return Some(at + 12);
@@ -109,7 +110,7 @@ pub fn first_bad(b: &[u8], k: Context) -> Result<(), BadElement>
             offer,
         );
         if count <= here.index {
-            break 'walk Ok(());
+            return Ok(());
         }
         let verdict = judge(b, here.offset, k);
         let Ok(next) = verdict else {

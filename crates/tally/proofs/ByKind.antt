@@ -31,15 +31,15 @@ module _ (l : Layout) (s : List ℕ) (kind flags guest number : ℕ) (o : Option
   unfolding touched_by
   touch_create a t y h e p q = touch_kind 4 t (number_is kind o found y h CreateVcpu e) (q ∙ ap one p)
 
-  touch_get : (a : ℕ) (t : Touched) → (y : Kind) → o ≡ Some y → y ≡ GetState → a ≡ slot_of l (header l s) guest number → t ≡ one a → Touch t
+  pub touch_get : (a : ℕ) (t : Touched) → (y : Kind) → o ≡ Some y → y ≡ GetState → a ≡ slot_of l (header l s) guest number → t ≡ one a → Touch t
   unfolding touched_by
   touch_get a t y h e p q = touch_kind 5 t (number_is kind o found y h GetState e) (q ∙ ap one p)
 
-  touch_set : (a : ℕ) (t : Touched) → (y : Kind) → o ≡ Some y → y ≡ SetState → a ≡ slot_of l (header l s) guest number → t ≡ one a → Touch t
+  pub touch_set : (a : ℕ) (t : Touched) → (y : Kind) → o ≡ Some y → y ≡ SetState → a ≡ slot_of l (header l s) guest number → t ≡ one a → Touch t
   unfolding touched_by
   touch_set a t y h e p q = touch_kind 6 t (number_is kind o found y h SetState e) (q ∙ ap one p)
 
-  touch_run : (a : ℕ) (t : Touched) → (y : Kind) → o ≡ Some y → y ≡ RunVcpu → a ≡ slot_of l (header l s) guest number → t ≡ one a → Touch t
+  pub touch_run : (a : ℕ) (t : Touched) → (y : Kind) → o ≡ Some y → y ≡ RunVcpu → a ≡ slot_of l (header l s) guest number → t ≡ one a → Touch t
   unfolding touched_by
   touch_run a t y h e p q = touch_kind 7 t (number_is kind o found y h RunVcpu e) (q ∙ ap one p)
 

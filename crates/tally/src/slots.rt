@@ -55,7 +55,9 @@ fn one(a: usize) -> Touched
     Touched { first: a, slots: 1 }
 }
 
-// In a store of the layout's length. A call that has no slot names the record past the last.
+// In a store of the layout's length. A call that has no slot names the record past the last. The laws of the three kinds that share an
+// arm are named here, so that an arm of its own is judged by what it says (must-fail/wrong_slot.edit).
+#[tactic(auto, using(crate::proofs::ByKind::touch_get, crate::proofs::ByKind::touch_set, crate::proofs::ByKind::touch_run))]
 fn touched_with(store: &[u8], l: Layout, kind: u64, flags: u64, guest: u64, number: u64) -> Touched
     requires { (l ≡ layout_of store.now) × (length store.now ≡ l.size) }
     ensures { result ≡ touched_by l store.now kind flags guest number }

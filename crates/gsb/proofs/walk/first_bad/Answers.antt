@@ -19,5 +19,5 @@ walk-preserved c = (search rules, search (rules, good_inside), search (rules, sk
 pub returns-then-count-here : goal.returns-then-count-here
 returns-then-count-here c = search (rules, skip_end)
 
-pub returns-in_default : goal.returns-in_default
-returns-in_default c = search (rules, skip_bad)
+pub returns : goal.returns
+returns c = search (rules, skip_bad)
