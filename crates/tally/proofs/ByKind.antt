@@ -89,7 +89,7 @@ module _ (kind flags r3 exit n : ℕ) (o : Option Kind) (found : o ≡ kind_of k
   change_kind : (k : ℕ) (c : Change) → kind ≡ k → c ≡ change_for k flags r3 exit n → Makes c
   change_kind k c e q = q ∙ ap (λ (x : ℕ). change_for x flags r3 exit n) (sym e)
 
-  change_create : (c : Change) → (y : Kind) → o ≡ Some y → y ≡ CreateVcpu → c ≡ on_success r3 Renewed Nothing → Makes c
+  pub change_create : (c : Change) → (y : Kind) → o ≡ Some y → y ≡ CreateVcpu → c ≡ on_success r3 Renewed Nothing → Makes c
   unfolding change_for
   change_create c y h e q = change_kind 4 c (number_is kind o found y h CreateVcpu e) q
 
@@ -105,7 +105,7 @@ module _ (kind flags r3 exit n : ℕ) (o : Option Kind) (found : o ≡ kind_of k
   unfolding change_for
   change_run c y h e q = change_kind 7 c (number_is kind o found y h RunVcpu e) q
 
-  change_delete : (c : Change) → (y : Kind) → o ≡ Some y → y ≡ DeleteGuest → c ≡ on_success r3 Renewed Nothing → Makes c
+  pub change_delete : (c : Change) → (y : Kind) → o ≡ Some y → y ≡ DeleteGuest → c ≡ on_success r3 Renewed Nothing → Makes c
   unfolding change_for
   change_delete c y h e q = change_kind 8 c (number_is kind o found y h DeleteGuest e) q
 

@@ -65,6 +65,9 @@ fn run_change(r3: u64, exit_reason: u64, input: &[u8]) -> Change
 }
 
 // `bytes` are those of the data that hold elements.
+// The laws of the two kinds that share an arm are named here, so that an arm of its own is judged by what it says
+// (must-fail/record_kept_over_delete.edit).
+#[tactic(auto, using(crate::proofs::ByKind::change_create, crate::proofs::ByKind::change_delete))]
 pub fn change_for(kind: u64, flags: u64, r3: u64, exit_reason: u64, bytes: &[u8]) -> Change
     ensures { result ≡ change_for kind flags r3 exit_reason (set_in bytes.now) }
 {
